@@ -1,0 +1,79 @@
+#!/usr/bin/env python3
+"""Holds the documents to the tree: each says only what is there.
+
+- every row of docs/DIFFERENCES.md (a heading `### name`) has a list lists/differences/name.list, and every such list has a row;
+- every row that a definition or a proof names ("DIFFERENCES, ...") is there;
+- every theorem of docs/THEOREMS.md, written `name` ([file](path)), is declared in that file, and every path exists.
+
+The last line is `docs: N passed, M failed`.
+"""
+import glob
+import os
+import re
+import sys
+
+ROOT = os.path.dirname(os.path.dirname(os.path.abspath(__file__)))
+ROW = re.compile(r"\b(?:i8042|clock|serial)-[a-z0-9]+(?:-[a-z0-9]+)*\b")
+
+
+def read(path):
+    with open(os.path.join(ROOT, path), encoding="utf-8") as file:
+        return file.read()
+
+
+def tree(pattern):
+    return sorted(os.path.relpath(path, ROOT) for path in glob.glob(os.path.join(ROOT, pattern), recursive=True))
+
+
+def rows_have_lists():
+    rows = set(re.findall(r"^### ([a-z0-9-]+)$", read("docs/DIFFERENCES.md"), re.M))
+    lists = {os.path.basename(path)[: -len(".list")] for path in tree("lists/differences/*.list")}
+    for name in sorted(rows - lists):
+        yield f"the row {name} has no list in lists/differences"
+    for name in sorted(lists - rows):
+        yield f"lists/differences/{name}.list has no row in docs/DIFFERENCES.md"
+
+
+def named_rows_exist():
+    rows = set(re.findall(r"^### ([a-z0-9-]+)$", read("docs/DIFFERENCES.md"), re.M))
+    for path in tree("crates/*/specs/*.antt") + tree("crates/*/src/*.rt"):
+        for line in re.findall(r"DIFFERENCES,[^\n]*(?:\n-- [^\n]*\")?", read(path)):
+            for name in re.findall(r'"([a-z0-9-]+)"', line):
+                if name not in rows:
+                    yield f"{path} names the row {name}, which docs/DIFFERENCES.md does not have"
+
+
+def theorems_exist():
+    cited = re.findall(r"`([^`\s]+)` \(\[[^\]]*\]\(\.\./([^)]+)\)\)", read("docs/THEOREMS.md"))
+    if not cited:
+        yield "docs/THEOREMS.md cites no theorem"
+    for name, path in cited:
+        if not os.path.exists(os.path.join(ROOT, path)):
+            yield f"docs/THEOREMS.md cites {path}, which is not there"
+        elif not re.search(rf"(?m)^\s*(?:pub |abbrev pub |unfoldable pub |pub record |pub data |pub extern \"C\" fn )*{re.escape(name)}\b", read(path)):
+            yield f"docs/THEOREMS.md cites {name}, which {path} does not declare"
+
+
+def links_lead_somewhere():
+    for page in ["README.md"] + tree("docs/**/*.md") + tree("*/README.md"):
+        for target in re.findall(r"\]\(([^)#\s]+)(?:#[^)]*)?\)", read(page)):
+            if not os.path.exists(os.path.join(ROOT, os.path.dirname(page), target)):
+                yield f"{page} links to {target}, which is not there"
+
+
+def main():
+    failed = 0
+    checks = [rows_have_lists, named_rows_exist, theorems_exist, links_lead_somewhere]
+    for check in checks:
+        faults = list(check())
+        for fault in faults:
+            print(f"FAILED {fault}")
+        if not faults:
+            print(f"ok {check.__name__.replace('_', ' ')}")
+        failed += bool(faults)
+    print(f"docs: {len(checks) - failed} passed, {failed} failed")
+    return min(failed, 1)
+
+
+if __name__ == "__main__":
+    sys.exit(main())

@@ -1,0 +1,90 @@
+#!/usr/bin/env python3
+"""Lists of device accesses, told and checked.
+
+    lists.py tell REPLAY FILE       print each access beside what REPLAY answers
+    lists.py check REPLAY FILE...   hold what REPLAY answers to the answers in each FILE
+
+A line of a list is `access => answer`, or `access => answer | manual: answer` where the chip's manual would answer otherwise.
+Empty lines and lines that begin with `#` are for the reader. REPLAY is a program that speaks the replay format
+(docs/REPLAY.md). Exit status: 0 all as told, 1 some answer differs, 2 a list or REPLAY cannot be used.
+"""
+import subprocess
+import sys
+
+
+class Trouble(Exception):
+    """Something that is not an answer of the device: a bad file, a program that cannot be run."""
+
+
+def parsed(path):
+    """The lines of a list as (text, access, answer); access and answer are None for a reader's line."""
+    try:
+        with open(path, encoding="ascii") as file:
+            lines = file.read().splitlines()
+    except (OSError, UnicodeDecodeError) as error:
+        raise Trouble(f"{path}: {error}")
+    rows = []
+    for number, line in enumerate(lines, 1):
+        if not line or line.startswith("#"):
+            rows.append((line, None, None))
+            continue
+        access, arrow, rest = line.partition("=>")
+        if not arrow:
+            raise Trouble(f"{path}:{number}: no `=>` between access and answer")
+        rows.append((line, access.strip(), rest.partition("|")[0].strip()))
+    return rows
+
+
+def answered(replay, rows):
+    """What `replay` answers to each access of `rows`, in order."""
+    accesses = [access for _, access, _ in rows if access is not None]
+    text = "".join(access + "\n" for access in accesses)
+    try:
+        run = subprocess.run([replay], input=text.encode(), stdout=subprocess.PIPE, check=True)
+    except (OSError, subprocess.CalledProcessError) as error:
+        raise Trouble(f"{replay}: {error}")
+    answers = run.stdout.decode("ascii", "replace").splitlines()
+    if len(answers) != len(accesses):
+        raise Trouble(f"{replay}: {len(accesses)} accesses and {len(answers)} answers")
+    return answers
+
+
+def tell(replay, path):
+    rows = parsed(path)
+    answers = iter(answered(replay, rows))
+    for text, access, _ in rows:
+        print(text if access is None else f"    {access:<44}  {next(answers)}")
+    return 0
+
+
+def check(replay, path):
+    """1 where an answer differs from the told one, with the first such line; else 0."""
+    rows = parsed(path)
+    answers = iter(answered(replay, rows))
+    for number, (_, access, told) in enumerate(rows, 1):
+        if access is None:
+            continue
+        answer = next(answers)
+        if answer != told:
+            print(f"FAILED {path}:{number}: {access}: told `{told}`, answered `{answer}`")
+            return 1
+    print(f"ok {path}")
+    return 0
+
+
+def main(words):
+    if len(words) == 3 and words[0] == "tell":
+        return tell(words[1], words[2])
+    if len(words) >= 3 and words[0] == "check":
+        failed = sum([check(words[1], path) for path in words[2:]])
+        print(f"lists: {len(words) - 2 - failed} passed, {failed} failed")
+        return min(failed, 1)
+    raise Trouble("usage: lists.py tell REPLAY FILE | lists.py check REPLAY FILE...")
+
+
+if __name__ == "__main__":
+    try:
+        sys.exit(main(sys.argv[1:]))
+    except Trouble as trouble:
+        print(f"lists.py: {trouble}", file=sys.stderr)
+        sys.exit(2)
