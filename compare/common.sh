@@ -1,0 +1,99 @@
+# Shared by the judge's commands. They can be called from anywhere and work in the repository's root.
+
+set -u
+
+root=$(realpath "$(dirname "${BASH_SOURCE[0]}")/..")
+tools=target/compare
+lists=$tools/lists
+passed=0
+failed=0
+
+# fail WHY: ends a command that cannot do what it was asked.
+fail() {
+    echo "$(basename "$0"): $1" >&2
+    exit 2
+}
+
+# take_replay [REPLAY DEVICE...]: the program to be judged and the devices that it has.
+take_replay() {
+    replay=
+    replay_devices=
+    [ $# -gt 0 ] || return 0
+    replay=$(realpath -e "$1") || exit 2
+    shift
+    [ $# -gt 0 ] || fail "which devices does $replay have?"
+    replay_devices=$(IFS=, && echo "$*")
+}
+
+# Builds the judge and finds out about the original: whether it is there, and on which lists it is to
+# agree with the account. Since 0.8.2 a write of the interrupt enable register announces what is
+# pending, which the account does not follow.
+prepare() {
+    cd "$root" || exit 2
+    make -s -f compare/Makefile || fail "the judge does not build"
+    rm -rf "$lists"
+    mkdir -p "$lists"
+    original=
+    domain=
+    if [ ! -x $tools/original ]; then
+        echo "the original's source is not at hand (VM_SUPERIO_SRC names its folder): going on without"
+        return
+    fi
+    original=yes
+    if printf 'serial\nw 01 02\n' | $tools/original | grep -qx 'w -- 1'; then
+        domain=--quiet-enable
+    fi
+}
+
+# check NAME COMMAND..: one line that says whether the command succeeds, and why not.
+check() {
+    local name=$1 output
+    shift
+    if output=$("$@" 2>&1); then
+        echo "ok     $name"
+        passed=$((passed + 1))
+    else
+        echo "FAILED $name"
+        sed 's/^/       /' <<<"$output"
+        failed=$((failed + 1))
+    fi
+}
+
+# list ARGUMENT..: the file with the list that `generate` makes of these arguments.
+list() {
+    local file=$lists/${*// /_}
+    file=${file// /_}
+    [ -f "$file" ] || $tools/generate "$@" >"$file" || exit 2
+    echo "$file"
+}
+
+# agree WHAT LEFT RIGHT ARGUMENT..: whether two answerers agree on such a list.
+agree() {
+    local what=$1 left=$2 right=$3
+    shift 3
+    check "$what: ${left##*/} and ${right##*/}" $tools/compare "$left" "$right" "$(list "$@")"
+}
+
+# judge WHAT ARGUMENT..: whether all agree on such a list: original, account and replay.
+judge() {
+    local what=$1
+    shift
+    if [ -n "$original" ]; then
+        agree "$what" original account "$@" $domain
+        if [ -n "$domain" ]; then
+            agree "$what" original 'account --enabling-announces' "$@"
+        fi
+    fi
+    if [ -n "$replay" ]; then
+        agree "$what" account "$replay" "$@" --devices "$replay_devices"
+        if [ -n "$original" ]; then
+            agree "$what" original "$replay" "$@" --devices "$replay_devices" $domain
+        fi
+    fi
+}
+
+# The last line, and the status of the command.
+summary() {
+    echo "$passed passed, $failed failed"
+    [ $failed -eq 0 ]
+}

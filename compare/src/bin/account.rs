@@ -1,0 +1,27 @@
+//! Answers a list by the account.
+
+use std::io;
+use std::process::ExitCode;
+
+use judge::account::Account;
+use judge::command_line::{arguments, finish, Trouble};
+use judge::session::serve;
+
+const USAGE: &str = "usage: account [--enabling-announces] < LIST > ANSWERS";
+
+fn run() -> Result<ExitCode, Trouble> {
+    let arguments = arguments();
+    let arguments: Vec<&str> = arguments.iter().map(String::as_str).collect();
+    let enabling_announces = match arguments[..] {
+        [] => false,
+        ["--enabling-announces"] => true,
+        _ => return Err(Trouble(USAGE.to_string())),
+    };
+    let account = Account { enabling_announces };
+    serve(account, io::stdin().lock(), io::stdout().lock())?;
+    Ok(ExitCode::SUCCESS)
+}
+
+fn main() -> ExitCode {
+    finish("account", run())
+}

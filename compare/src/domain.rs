@@ -1,0 +1,86 @@
+//! On which operations the account and vm-superio 0.8.2 must agree.
+//!
+//! Since 0.8.2 a write of the interrupt enable register announces what is pending: received data if
+//! bytes wait, then transmitter empty. The account only stores the register. A write that enables
+//! nothing of the transmitter's while no byte waits is the same in both; all others are left out of a
+//! list that is to be compared with 0.8.2.
+
+use crate::account::Account;
+use crate::format::{self, Operation};
+use crate::session::{Current, Session};
+
+/// The account at some place of a list.
+pub struct Place {
+    session: Session<Account>,
+}
+
+impl Default for Place {
+    fn default() -> Self {
+        Place {
+            session: Session::new(Account::default()),
+        }
+    }
+}
+
+impl Place {
+    /// Goes on to the place after `line`.
+    pub fn pass(&mut self, line: &[u8]) {
+        self.session.answer(line);
+    }
+
+    /// Whether `line`, at this place, is a write of the interrupt enable register that might announce.
+    pub fn announces(&self, line: &[u8]) -> bool {
+        let Current::Serial(port) = self.session.current() else {
+            return false;
+        };
+        let Some(Operation::WriteByte { offset: 1, value }) = format::parse(line) else {
+            return false;
+        };
+        !port.divisor_is_open() && (value & 0x02 != 0 || self.waiting() > 0)
+    }
+
+    /// How many bytes wait in the serial port, if that is the current device.
+    pub fn waiting(&self) -> usize {
+        match self.session.current() {
+            Current::Serial(port) => port.buffer.len(),
+            _ => 0,
+        }
+    }
+}
+
+#[cfg(test)]
+mod tests {
+    use super::*;
+
+    fn place_after(lines: &[&str]) -> Place {
+        let mut place = Place::default();
+        for line in lines {
+            place.pass(line.as_bytes());
+        }
+        place
+    }
+
+    #[test]
+    fn a_fresh_port_may_enable_received_data() {
+        let fresh = place_after(&["serial"]);
+        assert!(!fresh.announces(b"w 01 01"));
+        assert!(!fresh.announces(b"w 01 0d"));
+        assert!(fresh.announces(b"w 01 02"));
+        assert!(fresh.announces(b"w 01 ff"));
+    }
+
+    #[test]
+    fn nothing_may_be_enabled_while_a_byte_waits() {
+        let waiting = place_after(&["serial", "b 61"]);
+        assert!(waiting.announces(b"w 01 00"));
+        let fetched = place_after(&["serial", "b 61", "r 00"]);
+        assert!(!fetched.announces(b"w 01 00"));
+    }
+
+    #[test]
+    fn the_divisor_and_other_devices_do_not_count() {
+        assert!(!place_after(&["serial", "b 61", "w 03 80"]).announces(b"w 01 ff"));
+        assert!(!place_after(&["i8042"]).announces(b"w 01 ff"));
+        assert!(!place_after(&[]).announces(b"w 01 ff"));
+    }
+}

@@ -1,0 +1,38 @@
+//! Lines that are no operation, whatever the current device is.
+
+#[rustfmt::skip]
+pub const LINES: &[&[u8]] = &[
+    // Words.
+    b" ", b"  ", b"\t", b"\r", b"\0", b"x", b"?", b"-", b" #", b"\xff\xfe", b"\xc3\xa4",
+    b"serial ", b" serial", b"Serial", b"SERIAL", b"serial\r", b"serial\t", b"serial\0", b"serial 1",
+    b"serials", b"seria", b"serial#", b"clock ", b"clock 0", b"Clock", b"cloc", b"clocks", b"clock\r",
+    b"i8042 ", b"i804", b"I8042", b"i80420", b"i8042 0", b"8042",
+    b"room ", b"room 1", b"rooms", b"roo", b"Room", b"state ", b"state 0", b"states", b"stat", b"STATE",
+    // Bulk input.
+    b"b ", b"b  ", b"b 0", b"b 000", b"b 6g", b"b g6", b"b 6A", b"b 61 62", b"b  61", b" b 61", b"b61",
+    b"B 61", b"b 61 ", b"b 61\r", b"b 0x61", b"b 6 1", b"bb", b"b -", b"b 61-", b"b 61,62", b"b 6\xff",
+    // Single bytes.
+    b"w", b"w ", b"w 00", b"w 00 ", b"w 0 00", b"w 00 0", b"w 000 00", b"w 00 000", b"w 00 00 ",
+    b"w 00  00", b"w  00 00", b" w 00 00", b"w 00 00 00", b"w 0A 00", b"w 00 FE", b"w 04 Fe", b"w 04,fe",
+    b"w 04 fe\r", b"w 04\tfe", b"w\t04 fe", b"w -4 fe", b"w +4 fe", b"w 04 -e", b"w 4 fe", b"w 0x04 0xfe",
+    b"w g4 fe", b"w 4g fe", b"w 04 ge", b"w 04 fg", b"w 04 /e", b"w 04 :e", b"w 04 `e", b"w 04 @e",
+    b"w04 fe", b"w 04fe", b"W 04 fe", b"w 04 fe\0", b"w 04 \xfe", b"ww 04 fe", b"w w 04 fe", b"w 04 fe#",
+    b"r", b"r ", b"r 0", b"r 000", b"r 0G", b"r 0A", b"r 00 ", b"r  00", b" r 00", b"r 00 00", b"R 00",
+    b"r00", b"r 00\r", b"r 0x00", b"r -0", b"r 00#", b"rr 00", b"r r",
+    // Words of four bytes.
+    b"r 00 aabbccdd", b"r 0000", b"r 0000 ", b"r 0000 00", b"r 0000 aabbccd", b"r 0000 aabbccdde",
+    b"r 0000 aabbccddee", b"r 0000 AABBCCDD", b"r 0000 aabbccdg", b"r 0000 gabbccdd", b"r 000G aabbccdd",
+    b"r 000A aabbccdd", b"r 00000 aabbccdd", b"r 000 aabbccdd", b"r 0000 aabbccdd ", b"r 0000  aabbccdd",
+    b"r  0000 aabbccdd", b"r 0000 aabbccdd 00", b"r 0000 aa bb cc dd", b"R 0000 aabbccdd",
+    b"r 0000aabbccdd", b"r 0000 aabbccdd\r", b"r 0x00 aabbccdd", b"r 0000 0xbbccdd",
+    b"w 00 aabbccdd", b"w 0000", b"w 0000 ", b"w 0000 00", b"w 0000 aabbcc", b"w 0000 aabbccd",
+    b"w 0000 aabbccddee", b"w 0004 AABBCCDD", b"w 000C 01000000", b"w 0004 aabbccdg", b"w 00004 aabbccdd",
+    b"w 004 aabbccdd", b"w 0004 aabbccdd ", b"w 0004  aabbccdd", b"w 0004 aabbccdd ok", b"W 0004 aabbccdd",
+    b"w 0004 aabbccdd\r", b"w 0004aabbccdd", b"w -004 aabbccdd", b"w 0004 -abbccdd",
+    // The time.
+    b"now", b"now ", b"now  ", b"now -1", b"now +1", b"now 1 ", b"now  1", b" now 1", b"now 1 2", b"now 1a",
+    b"now a", b"now 0x10", b"now 1.5", b"now 1e3", b"now 1_000", b"now 1,000", b"Now 1", b"NOW 1", b"now1",
+    b"now 1\r", b"now -", b"now /", b"now :", b"now 18446744073709551616", b"now 18446744073709551625",
+    b"now 18446744073709551620", b"now 18446744073709552000", b"now 99999999999999999999",
+    b"now 36893488147419103232", b"now 184467440737095516160", b"now 100000000000000000000000000000000000",
+];
