@@ -30,17 +30,21 @@ take_replay() {
 # pending, which the account does not follow.
 prepare() {
     cd "$root" || exit 2
-    make -s -f compare/Makefile || fail "the judge does not build"
+    if ! make -s -f compare/Makefile; then
+        check "the judge builds" false
+        summary
+        exit
+    fi
     rm -rf "$lists"
     mkdir -p "$lists"
     original=
     domain=
-    if [ ! -x $tools/original ]; then
+    if [ ! -x "$tools"/original ]; then
         echo "the original's source is not at hand (VM_SUPERIO_SRC names its folder): going on without"
         return
     fi
     original=yes
-    if printf 'serial\nw 01 02\n' | $tools/original | grep -qx 'w -- 1'; then
+    if printf 'serial\nw 01 02\n' | "$tools"/original | grep -qx 'w -- 1'; then
         domain=--quiet-enable
     fi
 }
@@ -61,9 +65,9 @@ check() {
 
 # list ARGUMENT..: the file with the list that `generate` makes of these arguments.
 list() {
-    local file=$lists/${*// /_}
+    local file="$lists/$*"
     file=${file// /_}
-    [ -f "$file" ] || $tools/generate "$@" >"$file" || exit 2
+    [ -f "$file" ] || "$tools"/generate "$@" >"$file" || exit 2
     echo "$file"
 }
 
@@ -71,7 +75,7 @@ list() {
 agree() {
     local what=$1 left=$2 right=$3
     shift 3
-    check "$what: ${left##*/} and ${right##*/}" $tools/compare "$left" "$right" "$(list "$@")"
+    check "$what: ${left##*/} and ${right##*/}" "$tools"/compare "$left" "$right" "$(list "$@")"
 }
 
 # judge WHAT ARGUMENT..: whether all agree on such a list: original, account and replay.
@@ -95,5 +99,5 @@ judge() {
 # The last line, and the status of the command.
 summary() {
     echo "$passed passed, $failed failed"
-    [ $failed -eq 0 ]
+    [ "$failed" -eq 0 ]
 }

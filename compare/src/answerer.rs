@@ -34,7 +34,11 @@ impl Answerer {
             let name = name.to_string();
             return Ok(Answerer::Record { name, answers });
         }
-        let mut words: Vec<String> = name.split_whitespace().map(String::from).collect();
+        let mut words: Vec<String> = if Path::new(name).is_file() {
+            vec![name.to_string()]
+        } else {
+            name.split_whitespace().map(String::from).collect()
+        };
         let Some(program) = words.first_mut() else {
             return Err(Trouble("an answerer has no name".to_string()));
         };

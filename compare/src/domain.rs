@@ -6,18 +6,18 @@
 //! list that is to be compared with 0.8.2.
 
 use crate::account::Account;
+use crate::driver::{Current, Driver};
 use crate::format::{self, Operation};
-use crate::session::{Current, Session};
 
 /// The account at some place of a list.
 pub struct Place {
-    session: Session<Account>,
+    driver: Driver<Account>,
 }
 
 impl Default for Place {
     fn default() -> Self {
         Place {
-            session: Session::new(Account::default()),
+            driver: Driver::new(Account::default()),
         }
     }
 }
@@ -25,12 +25,12 @@ impl Default for Place {
 impl Place {
     /// Goes on to the place after `line`.
     pub fn pass(&mut self, line: &[u8]) {
-        self.session.answer(line);
+        self.driver.answer(line);
     }
 
     /// Whether `line`, at this place, is a write of the interrupt enable register that might announce.
     pub fn announces(&self, line: &[u8]) -> bool {
-        let Current::Serial(port) = self.session.current() else {
+        let Current::Serial(port) = self.driver.current() else {
             return false;
         };
         let Some(Operation::WriteByte { offset: 1, value }) = format::parse(line) else {
@@ -41,7 +41,7 @@ impl Place {
 
     /// How many bytes wait in the serial port, if that is the current device.
     pub fn waiting(&self) -> usize {
-        match self.session.current() {
+        match self.driver.current() {
             Current::Serial(port) => port.buffer.len(),
             _ => 0,
         }

@@ -1,7 +1,7 @@
 //! The judge: says whether two sets of devices answer a list of accesses alike.
 //!
 //! Lists and answers are in the replay format (`format`, `answer`). A set of devices is anything that
-//! implements `devices::Devices`; `session` drives one through a list. `account` is the set written
+//! implements `devices::Devices`; `driver` drives one through a list. `account` is the set written
 //! down from the account of what vm-superio 0.8.2 does, `faulty` is the account with one fault planted
 //! in it. `generate` makes lists, `answerer` runs a program on one, `difference` and `shrink` find
 //! where two programs differ and the shortest run that shows it.
@@ -13,8 +13,8 @@ pub mod command_line;
 pub mod devices;
 pub mod difference;
 pub mod domain;
+pub mod driver;
 pub mod faulty;
 pub mod format;
 pub mod generate;
-pub mod session;
 pub mod shrink;

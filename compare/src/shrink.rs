@@ -18,8 +18,9 @@ pub fn shrink(run: Vec<Line>, differs: &mut dyn FnMut(&[Line]) -> Option<usize>)
     loop {
         let cut = shrinker.cut();
         let put_in = shrinker.input_at_once();
+        let asked = shrinker.ask_for_state();
         let simplified = shrinker.simplify();
-        if !cut && !put_in && !simplified {
+        if !cut && !put_in && !asked && !simplified {
             return shrinker.run;
         }
     }
@@ -97,6 +98,14 @@ impl Shrinker<'_> {
             }
             shorter
         })
+    }
+
+    /// A state tells more than any other answer: tries to ask for it as early as it shows a difference.
+    fn ask_for_state(&mut self) -> bool {
+        let before = self.run.clone();
+        let state = [Operation::State.to_string().into_bytes()];
+        (1..before.len().saturating_sub(1))
+            .any(|kept| self.try_run([&before[..kept], &state].concat()))
     }
 
     /// Puts simpler lines in the place of single ones.
@@ -275,6 +284,23 @@ mod tests {
             run[0] == Operation::Start(Device::Serial) && bytes > 64
         });
         assert_eq!(found, format!("serial\nb {}\nw 00 00", "00".repeat(64)));
+    }
+
+    #[test]
+    fn a_state_is_asked_for_as_early_as_it_tells() {
+        let found = shrunk("serial\nw 07 01\nr 00\nroom", |run| {
+            let written = run.contains(&Operation::WriteByte {
+                offset: 7,
+                value: 1,
+            });
+            let read = run.contains(&Operation::ReadByte { offset: 0 });
+            match run.last() {
+                Some(Operation::State) => written,
+                Some(Operation::Room) => written && read,
+                _ => false,
+            }
+        });
+        assert_eq!(found, "w 07 01\nstate");
     }
 
     #[test]

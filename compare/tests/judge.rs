@@ -30,10 +30,13 @@ fn file(name: &str, text: &[u8]) -> String {
     path.to_string_lossy().into_owned()
 }
 
-/// A program made for a test.
+/// A program made for a test. It can call the account.
 fn script(name: &str, text: &str) -> String {
     let account = tools().unwrap().join("account");
-    let text = format!("#!/bin/sh\naccount={}\n{text}\n", account.display());
+    let text = format!(
+        "#!/bin/sh\naccount() {{ '{}'; }}\n{text}\n",
+        account.display()
+    );
     let path = file(name, text.as_bytes());
     fs::set_permissions(&path, fs::Permissions::from_mode(0o755)).unwrap();
     path
@@ -62,7 +65,7 @@ fn difference(left: &str, right: &str, list: &[u8]) -> Option<Difference> {
 }
 
 /// Every planted fault can be shown in this many lines.
-const SHORT: usize = 5;
+const SHORT: usize = 6;
 
 fn is_found_in(list: &[u8], fault: &str) {
     let found = difference("account", &format!("faulty {fault}"), list);
@@ -172,13 +175,13 @@ fn trouble_is_not_taken_for_agreement() {
     assert!(trouble("sleep 60", &list).contains("did not end"));
     assert!(trouble("yes", &list).contains("without end"));
 
-    let dies = script("dies", "head -n 1 | $account; exit 3");
+    let dies = script("dies", "head -n 1 | account; exit 3");
     assert!(trouble(&dies, &list).contains("after 1 answers; none to `room`"));
-    let few = script("few", "$account | head -n 2");
+    let few = script("few", "account | head -n 2");
     assert!(trouble(&few, &list).contains("2 answers to 3 lines; none to `state`"));
-    let many = script("many", "$account; echo ?");
+    let many = script("many", "account; echo ?");
     assert!(trouble(&many, &list).contains("4 answers to 3 lines"));
-    let lingers = script("lingers", "$account; exec >&-; exec sleep 60");
+    let lingers = script("lingers", "account; exec >&-; exec sleep 60");
     assert!(trouble(&lingers, &list).contains("did not end"));
 }
 
@@ -199,7 +202,9 @@ fn an_answerer_that_changes_its_mind_is_found_out() {
     let asked = file("asked", b"");
     let wavers = script(
         "wavers",
-        &format!("if [ -s {asked} ]; then $account; else echo x >> {asked}; $account | tr 6 7; fi"),
+        &format!(
+            "if [ -s '{asked}' ]; then account; else echo x >> '{asked}'; account | tr 6 7; fi"
+        ),
     );
     let found = difference("account", &wavers, list).unwrap();
     assert!(

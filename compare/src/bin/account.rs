@@ -5,7 +5,7 @@ use std::process::ExitCode;
 
 use judge::account::Account;
 use judge::command_line::{arguments, finish, Trouble};
-use judge::session::serve;
+use judge::driver::serve;
 
 const USAGE: &str = "usage: account [--enabling-announces] < LIST > ANSWERS";
 

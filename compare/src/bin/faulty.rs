@@ -4,8 +4,8 @@ use std::io::{self, Read};
 use std::process::ExitCode;
 
 use judge::command_line::{arguments, finish, Trouble};
+use judge::driver::serve;
 use judge::faulty::{Fault, Faulty, FAULTS};
-use judge::session::serve;
 
 fn usage() -> Trouble {
     let mut usage = "usage: faulty FAULT < LIST > ANSWERS, where FAULT is one of".to_string();

@@ -11,7 +11,7 @@ use std::rc::Rc;
 
 use judge::command_line::{arguments, finish, Trouble};
 use judge::devices::{self, ClockState, Devices, Raised, SerialState};
-use judge::session::serve;
+use judge::driver::serve;
 use vm_superio::rtc_pl031::RtcEvents;
 use vm_superio::serial::{Error, NoEvents};
 use vm_superio::Trigger;
@@ -153,7 +153,9 @@ struct I8042 {
 
 impl devices::I8042 for I8042 {
     fn write(&mut self, offset: u8, value: u8) -> bool {
-        let Ok(()) = self.controller.write(offset, value);
+        self.controller
+            .write(offset, value)
+            .expect("nothing here fails");
         self.resets.take() > 0
     }
 

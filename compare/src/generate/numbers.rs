@@ -9,7 +9,7 @@ impl Numbers {
         Numbers { state: seed }
     }
 
-    pub fn next(&mut self) -> u64 {
+    pub fn number(&mut self) -> u64 {
         self.state = self.state.wrapping_add(0x9e37_79b9_7f4a_7c15);
         let mut mixed = self.state;
         mixed = (mixed ^ (mixed >> 30)).wrapping_mul(0xbf58_476d_1ce4_e5b9);
@@ -18,7 +18,7 @@ impl Numbers {
     }
 
     pub fn byte(&mut self) -> u8 {
-        self.next() as u8
+        self.number() as u8
     }
 
     pub fn bytes(&mut self, count: usize) -> Vec<u8> {
@@ -27,7 +27,7 @@ impl Numbers {
 
     /// A number below `limit`. (That the low ones come a trifle more often does not matter here.)
     pub fn below(&mut self, limit: usize) -> usize {
-        (self.next() % limit as u64) as usize
+        (self.number() % limit as u64) as usize
     }
 
     /// True once in `times`.
@@ -47,8 +47,8 @@ mod tests {
     #[test]
     fn the_first_numbers_of_seed_0_are_the_published_ones() {
         let mut numbers = Numbers::new(0);
-        assert_eq!(numbers.next(), 0xe220_a839_7b1d_cdaf);
-        assert_eq!(numbers.next(), 0x6e78_9e6a_a1b9_65f4);
-        assert_eq!(numbers.next(), 0x06c4_5d18_8009_454f);
+        assert_eq!(numbers.number(), 0xe220_a839_7b1d_cdaf);
+        assert_eq!(numbers.number(), 0x6e78_9e6a_a1b9_65f4);
+        assert_eq!(numbers.number(), 0x06c4_5d18_8009_454f);
     }
 }

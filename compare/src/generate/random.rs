@@ -19,7 +19,7 @@ pub fn list(options: &Options, count: usize, seed: u64) -> Vec<u8> {
         writer.line(line.as_bytes());
     }
     while writer.goes_on() {
-        writer.session(&options.devices);
+        writer.one_device(&options.devices);
     }
     writer.list.into_text()
 }
@@ -52,12 +52,14 @@ impl Writer {
     }
 
     /// One device from its start to the next one's.
-    fn session(&mut self, devices: &[Device]) {
+    fn one_device(&mut self, devices: &[Device]) {
         let device = self.numbers.pick(devices);
         self.operation(Operation::Start(device));
         self.now = 0;
         let length = self.numbers.pick(&[1, 5, 30, 200, 200, 1_000, 5_000]);
-        for _ in 0..self.numbers.below(length) {
+        // A short list is to have more than one device, too.
+        let length = self.numbers.below(length.min(1 + self.count / 20));
+        for _ in 0..length {
             if self.numbers.once_in(50) {
                 self.disturb();
             }
@@ -251,8 +253,8 @@ impl Writer {
     fn time(&mut self) {
         let step = self.numbers.below(100) as u64;
         self.now = match self.numbers.below(6) {
-            0 => self.numbers.next(),
-            1 => self.numbers.next() >> 32,
+            0 => self.numbers.number(),
+            1 => self.numbers.number() >> 32,
             2 => self.now.wrapping_add(step),
             3 => self.now.wrapping_sub(step),
             _ => self.numbers.pick(&[
@@ -271,7 +273,7 @@ impl Writer {
 
     fn clock_offset(&mut self) -> u16 {
         match self.numbers.below(8) {
-            0 => self.numbers.next() as u16,
+            0 => self.numbers.number() as u16,
             1 => self.numbers.below(0x24) as u16,
             2 => 0xfdc + self.numbers.below(0x28) as u16,
             3 => self.numbers.pick(&[0x00, 0x08]),
@@ -282,7 +284,7 @@ impl Writer {
     fn clock_data(&mut self) -> [u8; 4] {
         let step = self.numbers.below(100) as u32;
         let value = match self.numbers.below(4) {
-            0 => self.numbers.next() as u32,
+            0 => self.numbers.number() as u32,
             1 => (self.now as u32).wrapping_add(step),
             2 => (self.now as u32).wrapping_sub(step),
             _ => self
@@ -320,8 +322,8 @@ mod tests {
     use crate::answer::Answer;
     use crate::devices::{Serial, SerialState};
     use crate::domain::Place;
+    use crate::driver::{Current, Driver};
     use crate::format::{self, asking_lines};
-    use crate::session::{Current, Session};
 
     fn sample(devices: &[Device], quiet_enable: bool, seed: u64) -> Vec<u8> {
         let devices = devices.to_vec();
@@ -334,15 +336,15 @@ mod tests {
 
     /// The state of the port before each operation on it.
     fn serial_steps(text: &[u8]) -> Vec<(SerialState, Operation)> {
-        let mut session = Session::new(Account::default());
+        let mut driver = Driver::new(Account::default());
         let mut steps = Vec::new();
         for line in asking_lines(text) {
             if let (Current::Serial(port), Some(operation)) =
-                (session.current(), format::parse(line))
+                (driver.current(), format::parse(line))
             {
                 steps.push((port.state(), operation));
             }
-            session.answer(line);
+            driver.answer(line);
         }
         steps
     }
@@ -404,14 +406,14 @@ mod tests {
         let text = sample(&[Device::Clock], true, 1);
         let mut times = Vec::new();
         let mut fell_back = 0;
-        let mut session = Session::new(Account::default());
+        let mut driver = Driver::new(Account::default());
         for line in asking_lines(&text) {
             if let Some(Operation::Now(time)) = format::parse(line) {
                 times.push(time);
             }
-            let answer = session.answer(line);
+            let answer = driver.answer(line);
             if let (Answer::ReadWord { data, .. }, Current::Clock { now, clock }) =
-                (&answer, session.current())
+                (&answer, driver.current())
             {
                 let is_data = format::parse(line)
                     .is_some_and(|o| matches!(o, Operation::ReadWord { offset: 0, .. }));

@@ -14,14 +14,14 @@ pub enum Current<D: Devices> {
     I8042(D::I8042),
 }
 
-pub struct Session<D: Devices> {
+pub struct Driver<D: Devices> {
     devices: D,
     current: Current<D>,
 }
 
-impl<D: Devices> Session<D> {
+impl<D: Devices> Driver<D> {
     pub fn new(devices: D) -> Self {
-        Session {
+        Driver {
             devices,
             current: Current::None,
         }
@@ -117,7 +117,7 @@ fn on_i8042(i8042: &mut impl I8042, operation: &Operation) -> Answer {
 /// Answers a whole list from `input` on `output`.
 pub fn serve(devices: impl Devices, mut input: impl BufRead, output: impl Write) -> io::Result<()> {
     let mut output = io::BufWriter::with_capacity(1 << 16, output);
-    let mut session = Session::new(devices);
+    let mut driver = Driver::new(devices);
     let mut line = Vec::new();
     let mut answer = Vec::new();
     while input.read_until(b'\n', &mut line)? > 0 {
@@ -125,7 +125,7 @@ pub fn serve(devices: impl Devices, mut input: impl BufRead, output: impl Write)
             line.pop();
         }
         if !format::is_passed_over(&line) {
-            session.answer(&line).print(&mut answer);
+            driver.answer(&line).print(&mut answer);
             output.write_all(&answer)?;
             answer.clear();
         }
