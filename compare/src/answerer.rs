@@ -63,20 +63,17 @@ impl Answerer {
 
     /// How to run the program, or none for a record, which answers only the list it was recorded on.
     pub fn command(&self) -> Option<Command> {
-        let Answerer::Program { words, .. } = self else {
-            return None;
-        };
-        let mut command = Command::new(&words[0]);
-        command.args(&words[1..]);
-        Some(command)
+        match self {
+            Answerer::Program { words, .. } => Some(command(words)),
+            Answerer::Record { .. } => None,
+        }
     }
 
     /// One answer for each line of the list that asks for one. The program has `limit` to give them.
     pub fn answers(&self, list: &[u8], limit: Duration) -> Result<Answers, Trouble> {
-        let answers = match (self, self.command()) {
-            (Answerer::Record { answers, .. }, _) => Answers::new(answers.clone()),
-            (_, Some(command)) => self.run(command, list, limit)?,
-            (_, None) => unreachable!("a program has a command"),
+        let answers = match self {
+            Answerer::Program { words, .. } => self.run(command(words), list, limit)?,
+            Answerer::Record { answers, .. } => Answers::new(answers.clone()),
         };
         let asked = asking_lines(list).count();
         if answers.len() != asked {
@@ -85,6 +82,9 @@ impl Answerer {
                 answers.len(),
                 first_unanswered(list, answers.len())
             )));
+        }
+        if asked > 0 && !answers.text.ends_with(b"\n") {
+            return Err(self.trouble("the last answer has no line ending"));
         }
         Ok(answers)
     }
@@ -123,6 +123,13 @@ impl Answerer {
         }
         Ok(answers)
     }
+}
+
+/// A program, which is the first word, with its arguments.
+fn command(words: &[String]) -> Command {
+    let mut command = Command::new(&words[0]);
+    command.args(&words[1..]);
+    command
 }
 
 /// No answer is longer than this many times its line: the longest is a full buffer's `state`.

@@ -58,7 +58,7 @@ impl Pair {
         };
         Ok(Verdict::Differ(Difference {
             line_number: line_number(list, place),
-            names: [self.left.name(), self.right.name()].map(String::from),
+            names: [&self.left, &self.right].map(heading),
             how_found,
             rows,
         }))
@@ -119,6 +119,12 @@ fn table<'a>(
         .zip(right)
         .map(|((asked, left), right)| [asked, left, right].map(shown))
         .collect()
+}
+
+/// What stands over an answerer's column: its name without the folder.
+fn heading(answerer: &Answerer) -> String {
+    let name = answerer.name();
+    name.rsplit('/').next().unwrap_or(name).to_string()
 }
 
 /// A line as it is shown: unprintable bytes spelled out, and its middle left out if it is very long.

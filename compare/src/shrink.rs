@@ -133,7 +133,12 @@ fn simpler_lines(line: &Line) -> Vec<Line> {
             .into_iter()
             .map(|simpler| simpler.to_string().into_bytes())
             .collect(),
-        None => shorter(line),
+        None => {
+            let mut lines = shorter(line);
+            // Every line of a run is to get an answer.
+            lines.retain(|line| !format::is_passed_over(line));
+            lines
+        }
     }
 }
 
@@ -310,5 +315,9 @@ mod tests {
             run.iter().position(|line| line.contains(&b'F'))
         });
         assert_eq!(found, lines("F"));
+        let found = shrink(lines(" #"), &mut |run| {
+            run.iter().position(|line| line.contains(&b'#'))
+        });
+        assert_eq!(found, lines(" #"));
     }
 }

@@ -156,7 +156,7 @@ fn a_single_changed_byte_is_found() {
 
 /// Compares the account with something that cannot be judged, and answers what is said about it.
 fn trouble(answerer: &str, list: &str) -> String {
-    let output = compare(&["--limit", "2", "account", answerer, list]);
+    let output = compare(&["--limit", "4", "account", answerer, list]);
     let message = String::from_utf8_lossy(&output.stderr).into_owned();
     assert_eq!(status(&output), 2, "{answerer}: {message}");
     assert!(output.stdout.is_empty());
@@ -181,6 +181,8 @@ fn trouble_is_not_taken_for_agreement() {
     assert!(trouble(&few, &list).contains("2 answers to 3 lines; none to `state`"));
     let many = script("many", "account; echo ?");
     assert!(trouble(&many, &list).contains("4 answers to 3 lines"));
+    let unended = script("unended", "account | head -c -1");
+    assert!(trouble(&unended, &list).contains("no line ending"));
     let lingers = script("lingers", "account; exec >&-; exec sleep 60");
     assert!(trouble(&lingers, &list).contains("did not end"));
 }
