@@ -1,0 +1,37 @@
+use Prim.Native.Nat.{ℕ, _+_, _-_, _≤_, _<_}
+use mathlib.Core.Path.{_≡_}
+use borrow.Author.Needs.{needs}
+use native.Mathlib.Omega.{arith}
+use lib.ListN.{length}
+use Rattle.lines.specs.Lines.{Sound, Answered}
+use Rattle.lines.proofs.answer.Statement.{statement}
+use Rattle.lines.proofs.answer.Tie as tie
+
+abbrev Inv-loop : tie.InvT-loop
+Inv-loop held clock₀ time₀ regs₀ pos₀ ring₀ out₀ all state₀ clock time regs pos ring out state = Sound state × (state .end ≤ length all)
+
+abbrev μ-loop : tie.MeasureT-loop
+μ-loop held clock₀ time₀ regs₀ pos₀ ring₀ out₀ all state₀ clock time regs pos ring out state = state .end - state .seen
+
+loop-holds : tie.Need-loop-holds Inv-loop μ-loop
+loop-holds c = search needs
+
+returns : tie.Need-returns Inv-loop μ-loop
+returns c = (search needs, record { all = λ e. let z : _≡_ {A = ℕ} 0 1 = cc in omega arith })
+
+step-requires : tie.Need-step-requires Inv-loop μ-loop
+step-requires c κs = search needs
+
+loop-less : tie.Need-loop-less Inv-loop μ-loop
+loop-less c = search needs
+
+loop-again : tie.Need-loop-again Inv-loop μ-loop
+loop-again c = search needs
+
+returns-2 : tie.Need-returns-2 Inv-loop μ-loop
+returns-2 c = search needs
+
+pub answer-spec : {M : Type 1} → statement M
+answer-spec =
+    tie.close
+    (tie.spec Inv-loop μ-loop loop-holds returns step-requires loop-less loop-again returns-2)

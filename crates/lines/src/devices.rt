@@ -1,0 +1,63 @@
+// The current device, and the line that is handed to it.
+use crate::Block;
+use crate::parse::is;
+use crate::put::put;
+use crate::put::unknown;
+use crate::reset_lines;
+ghost use Prim.Native.Nat.{_+_, _≤_, _<_};
+ghost use mathlib.Core.Path.{_≡_};
+ghost use lib.ListN.{length};
+
+// The state of each device, which the caller lends: the clock's, and the serial port's registers,
+// the place of its waiting bytes, and these.
+pub type Clock = [u32; 6];
+
+pub type Regs = [u8; 9];
+
+pub type Pos = [u32; 2];
+
+pub type Ring = [u8; 64];
+
+pub enum Device {
+    Nothing,
+    Reset,
+}
+
+// The device after a line, and how much of `out` is used.
+pub struct Said {
+    pub device: Device,
+    pub put: usize,
+}
+
+// Answers a line, which names a device or speaks to the current one, from `at` on.
+pub fn answer(
+    line: &[u8],
+    device: Device,
+    clock: &mut Clock,
+    time: &mut u64,
+    regs: &mut Regs,
+    pos: &mut Pos,
+    ring: &mut Ring,
+    out: &mut Block,
+    at: usize,
+) -> Said
+    requires { ⌜ at + 4096 ≤ 65536 ⌝ }
+    ensures { λ r. ⌜ r .put ≤ 65536 ⌝ }
+{
+    if is(line, b"i8042") {
+        return Said {
+            device: Device::Reset,
+            put: put(out, at, b"i8042\n"),
+        };
+    }
+    match device {
+        Device::Nothing => Said {
+            device,
+            put: unknown(out, at),
+        },
+        Device::Reset => Said {
+            device,
+            put: reset_lines::answer(line, out, at),
+        },
+    }
+}

@@ -1,0 +1,93 @@
+use Prim.Native.Nat.{_+_, _-_, _≤_, _<_}
+use mathlib.Core.Path.{_≡_}
+use borrow.Author.Needs.{needs}
+use native.Mathlib.Omega.{arith}
+use lib.ListN.{length}
+use Rattle.replay.specs.Came.{countOf}
+use Rattle.replay.proofs.read.Statement.{statement}
+use Rattle.replay.proofs.read.Tie as tie
+
+abbrev Inv-loop : tie.InvT-loop
+Inv-loop space₀ turns₀ t4 space turns = length space ≡ length space₀
+
+abbrev μ-loop : tie.MeasureT-loop
+μ-loop space₀ turns₀ t4 space turns = turns
+
+loop-holds : tie.Need-loop-holds Inv-loop μ-loop
+loop-holds c = search needs
+
+read-requires : tie.Need-read-requires Inv-loop μ-loop
+read-requires c κs = search needs
+
+same-length : tie.Need-same-length Inv-loop μ-loop
+same-length c = search needs
+
+returns : tie.Need-returns Inv-loop μ-loop
+unfolding countOf
+returns c = search needs
+
+count-requires : tie.Need-count-requires Inv-loop μ-loop
+count-requires c κs = search needs
+
+same-length-2 : tie.Need-same-length-2 Inv-loop μ-loop
+same-length-2 c = search needs
+
+returns-2 : tie.Need-returns-2 Inv-loop μ-loop
+unfolding countOf
+returns-2 c = search needs
+
+is-interrupted-requires : tie.Need-is-interrupted-requires Inv-loop μ-loop
+is-interrupted-requires c κs = search needs
+
+slice-aggregate-fail : tie.Need-slice-aggregate-fail Inv-loop μ-loop
+slice-aggregate-fail c = search needs
+
+fail-requires : tie.Need-fail-requires Inv-loop μ-loop
+fail-requires c κs = search needs
+
+same-length-3 : tie.Need-same-length-3 Inv-loop μ-loop
+same-length-3 c = search needs
+
+returns-3 : tie.Need-returns-3 Inv-loop μ-loop
+unfolding countOf
+returns-3 c = search needs
+
+sub-turns : tie.Need-sub-turns Inv-loop μ-loop
+sub-turns c = search needs
+
+loop-less : tie.Need-loop-less Inv-loop μ-loop
+loop-less c = search needs
+
+loop-again : tie.Need-loop-again Inv-loop μ-loop
+loop-again c = search needs
+
+same-length-4 : tie.Need-same-length-4 Inv-loop μ-loop
+same-length-4 c = search needs
+
+returns-4 : tie.Need-returns-4 Inv-loop μ-loop
+unfolding countOf
+returns-4 c = search needs
+
+pub read-spec : {M : Type 1} → statement M
+read-spec =
+    tie.close
+    (tie.spec
+    Inv-loop
+    μ-loop
+    loop-holds
+    read-requires
+    same-length
+    returns
+    count-requires
+    same-length-2
+    returns-2
+    is-interrupted-requires
+    slice-aggregate-fail
+    fail-requires
+    same-length-3
+    returns-3
+    sub-turns
+    loop-less
+    loop-again
+    same-length-4
+    returns-4)
