@@ -3,6 +3,7 @@ use Prim.Native.Nat.{ℕ, _+_, _-_, _≤_, _<_}
 use mathlib.Core.Bool.{false}
 use mathlib.Core.Path.{_≡_}
 use Rattle.lines.specs.declared.State.{State}
+use Rattle.lines.specs.declared.cut.Cut.{Cut}
 
 -- r is the value of the lower-case digit c, or 16 where c is none
 pub record Digit (c r : ℕ) : Type 0 where
@@ -25,3 +26,13 @@ pub record Sound (s : State) : Type 0 where
 -- Unless the answers are full, all that is held is searched.
 pub record Answered (s : State) : Type 0 where
   pub all : s .full ≡ false → s .seen ≡ s .end
+
+-- The line that starts at `from` ends within what is held, and more of that is searched than was before. What is searched of the next
+-- one is short.
+pub record Cuts (from seen end : ℕ) (r : Cut) : Type 0 where
+  pub starts : from ≤ r .stop
+  pub stops : r .stop ≤ end
+  pub goes-on : seen < r .seen
+  pub searched : r .seen ≤ end
+  pub started : r .from ≤ r .seen
+  pub short : r .seen ≤ r .from + 8192

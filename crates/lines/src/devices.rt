@@ -1,5 +1,6 @@
 // The current device, and the line that is handed to it.
 use crate::Block;
+use crate::cut::Kind;
 use crate::parse::is;
 use crate::put::put;
 use crate::put::unknown;
@@ -32,6 +33,7 @@ pub struct Said {
 // Answers a line, which names a device or speaks to the current one, from `at` on.
 pub fn answer(
     line: &[u8],
+    kind: Kind,
     device: Device,
     clock: &mut Clock,
     time: &mut u64,
@@ -44,6 +46,18 @@ pub fn answer(
     requires { ⌜ at + 4096 ≤ 65536 ⌝ }
     ensures { λ r. ⌜ r .put ≤ 65536 ⌝ }
 {
+    match kind {
+        Kind::Silent => {
+            return Said { device, put: at };
+        }
+        Kind::TooLong => {
+            return Said {
+                device,
+                put: unknown(out, at),
+            };
+        }
+        Kind::Whole => {}
+    }
     if is(line, b"i8042") {
         return Said {
             device: Device::Reset,

@@ -4,6 +4,7 @@
 // the state is `full`, it calls `settle` and reads into `held` behind its first `end` bytes, and
 // says so by `came`, or, at the end of the input, by `close`. Then it calls `answer`. Nothing here
 // reads or writes a file.
+mod cut;
 pub mod devices;
 mod parse;
 mod put;
@@ -14,17 +15,12 @@ use devices::Device;
 use devices::Pos;
 use devices::Regs;
 use devices::Ring;
-use devices::Said;
-use put::unknown;
 ghost use Prim.Native.Nat.{_+_, _-_, _≤_, _<_};
 ghost use mathlib.Core.Path.{_≡_};
 ghost use lib.ListN.{length};
 ghost use Rattle.lines.specs.Lines.{Sound, Answered};
 
 pub type Block = [u8; 65536];
-
-// A line of more characters is answered `?` and not looked at.
-const LONGEST: usize = 8192;
 
 // Answers stop once more than this is used of `out`: no answer is longer than 4,096 bytes.
 const ENOUGH: usize = 61440;
@@ -76,141 +72,45 @@ pub fn answer(
     ensures { λ r. ⌜ Answered r ⌝ }
 {
     let all: &[u8] = held;
+    let end = before.end;
+    let ended = before.ended;
     let mut state = before;
-    while state.seen < state.end {
+    while state.seen < end {
         if state.put > ENOUGH {
             state.full = true;
             return state;
         }
-        state = step(all, clock, time, regs, pos, ring, out, state);
+        let from = state.from;
+        let cut = cut::next_line(all, from, state.seen, end, state.passes);
+        let stop = cut.stop;
+        let kind = cut.kind;
+        let device = state.device;
+        let said = devices::answer(
+            &all[from..stop],
+            kind,
+            device,
+            clock,
+            time,
+            regs,
+            pos,
+            ring,
+            out,
+            state.put,
+        );
+        let next = said.device;
+        state = State {
+            device: next,
+            from: cut.from,
+            seen: cut.seen,
+            end,
+            put: said.put,
+            ended,
+            passes: cut.passes,
+            full: false,
+        };
     }
     state.full = false;
     state
-}
-
-// Answers the current line, if all of it is held.
-fn step(
-    all: &[u8],
-    clock: &mut Clock,
-    time: &mut u64,
-    regs: &mut Regs,
-    pos: &mut Pos,
-    ring: &mut Ring,
-    out: &mut Block,
-    state: State,
-) -> State
-    requires { ⌜ Sound state ⌝ }
-    requires { ⌜ state .seen < state .end ⌝ }
-    requires { ⌜ state .end ≤ length (now all) ⌝ }
-    requires { ⌜ state .put + 4096 ≤ 65536 ⌝ }
-    ensures { λ r. ⌜ Sound r ⌝ }
-    ensures { λ r. ⌜ r .end ≡ state .end ⌝ }
-    ensures { λ r. ⌜ state .seen < r .seen ⌝ }
-{
-    let from = state.from;
-    let seen = state.seen;
-    let end = state.end;
-    let stop = bytes::scan::find(all, seen, end, b'\n');
-    if stop == end {
-        return rest(&all[from..end], out, state);
-    }
-    let device = state.device;
-    let said = line(
-        &all[from..stop],
-        state.passes,
-        device,
-        clock,
-        time,
-        regs,
-        pos,
-        ring,
-        out,
-        state.put,
-    );
-    let next = said.device;
-    State {
-        device: next,
-        from: stop + 1,
-        seen: stop + 1,
-        end,
-        put: said.put,
-        ended: state.ended,
-        passes: false,
-        full: false,
-    }
-}
-
-// The current line, of which `s` is held, has no newline yet. Where it is too long already it is
-// answered, and what is left of it will be passed over.
-fn rest(s: &[u8], out: &mut Block, mut state: State) -> State
-    requires { ⌜ Sound state ⌝ }
-    requires { ⌜ length (now s) ≡ state .end - state .from ⌝ }
-    requires { ⌜ state .put + 4096 ≤ 65536 ⌝ }
-    ensures { λ r. ⌜ Sound r ⌝ }
-    ensures { λ r. ⌜ r .end ≡ state .end ⌝ }
-    ensures { λ r. ⌜ r .seen ≡ state .end ⌝ }
-{
-    state.seen = state.end;
-    if s.len() <= LONGEST {
-        return state;
-    }
-    state.put = too_long(s, state.passes, out, state.put);
-    state.passes = true;
-    state.from = state.end;
-    state
-}
-
-// What is said of a line, of which `s` is held, once it is seen to be too long.
-fn too_long(s: &[u8], passes: bool, out: &mut Block, put: usize) -> usize
-    requires { ⌜ put + 4096 ≤ 65536 ⌝ }
-    ensures { λ r. ⌜ r ≤ 65536 ⌝ }
-{
-    if passes {
-        return put;
-    }
-    if is_silent(s) {
-        return put;
-    }
-    unknown(out, put)
-}
-
-// A whole line, without its newline, or what is left of one that was too long.
-fn line(
-    s: &[u8],
-    passes: bool,
-    device: Device,
-    clock: &mut Clock,
-    time: &mut u64,
-    regs: &mut Regs,
-    pos: &mut Pos,
-    ring: &mut Ring,
-    out: &mut Block,
-    put: usize,
-) -> Said
-    requires { ⌜ put + 4096 ≤ 65536 ⌝ }
-    ensures { λ r. ⌜ r .put ≤ 65536 ⌝ }
-{
-    if s.len() > LONGEST {
-        return Said {
-            device,
-            put: too_long(s, passes, out, put),
-        };
-    }
-    if passes {
-        return Said { device, put };
-    }
-    if is_silent(s) {
-        return Said { device, put };
-    }
-    devices::answer(s, device, clock, time, regs, pos, ring, out, put)
-}
-
-// An empty line and a comment get no answer.
-fn is_silent(s: &[u8]) -> bool {
-    if s.len() == 0 {
-        return true;
-    }
-    s[0] == b'#'
 }
 
 // Moves the current line to the start of `held`, so that there is space to read.

@@ -116,22 +116,12 @@ fn fill(held: &mut Block, before: State) -> Next
     }
 }
 
-// Writes the answers that wait, so that whoever types a line sees its answer before the next read
-// waits; reads, unless lines are held that had no room for their answers; and answers what is held.
-fn turn(
-    held: &mut Block,
-    clock: &mut Clock,
-    time: &mut u64,
-    regs: &mut Regs,
-    pos: &mut Pos,
-    ring: &mut Ring,
-    out: &mut Block,
-    before: State,
-) -> Next
+// Writes the answers that wait, so that whoever types a line sees its answer before a read waits for
+// the next. Then reads, unless lines are held that had no room for their answers.
+fn exchange(held: &mut Block, out: &Block, before: State) -> Next
     requires { ⌜ Sound before ⌝ }
     requires { ⌜ Answered before ⌝ }
     ensures { λ r. ⌜ Sound (r .state) ⌝ }
-    ensures { λ r. ⌜ Answered (r .state) ⌝ }
 {
     let mut state = before;
     let all: &[u8] = out;
@@ -141,19 +131,12 @@ fn turn(
     }
     state.put = 0;
     if state.full {
-        return Next {
-            state: lines::answer(held, clock, time, regs, pos, ring, out, state),
-            more: true,
-        };
+        return Next { state, more: true };
     }
     if state.ended {
         return Next { state, more: false };
     }
-    let next = fill(held, state);
-    Next {
-        state: lines::answer(held, clock, time, regs, pos, ring, out, next.state),
-        more: next.more,
-    }
+    fill(held, state)
 }
 
 fn run(
@@ -168,11 +151,11 @@ fn run(
     let mut state = lines::start();
     let mut turns = ENDLESS;
     while turns > 0 {
-        let next = turn(held, clock, time, regs, pos, ring, out, state);
-        state = next.state;
+        let next = exchange(held, out, state);
         if !next.more {
             return;
         }
+        state = lines::answer(held, clock, time, regs, pos, ring, out, next.state);
         turns -= 1;
     }
 }
@@ -186,12 +169,6 @@ fn main() {
     let mut pos = [0u32; 2];
     let mut ring = [0u8; 64];
     run(
-        &mut held,
-        &mut clock,
-        &mut time,
-        &mut regs,
-        &mut pos,
-        &mut ring,
-        &mut out,
+        &mut held, &mut clock, &mut time, &mut regs, &mut pos, &mut ring, &mut out,
     );
 }

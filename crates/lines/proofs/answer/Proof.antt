@@ -8,10 +8,12 @@ use Rattle.lines.proofs.answer.Statement.{statement}
 use Rattle.lines.proofs.answer.Tie as tie
 
 abbrev Inv-loop : tie.InvT-loop
-Inv-loop held clock₀ time₀ regs₀ pos₀ ring₀ out₀ all state₀ clock time regs pos ring out state = Sound state × (state .end ≤ length all)
+Inv-loop held clock₀ time₀ regs₀ pos₀ ring₀ out₀ all end ended state₀ clock time regs pos ring out state =
+    Sound state × (state .end ≡ end) × (end ≤ length all)
 
 abbrev μ-loop : tie.MeasureT-loop
-μ-loop held clock₀ time₀ regs₀ pos₀ ring₀ out₀ all state₀ clock time regs pos ring out state = state .end - state .seen
+μ-loop held clock₀ time₀ regs₀ pos₀ ring₀ out₀ all end ended state₀ clock time regs pos ring out state =
+    end - state .seen
 
 loop-holds : tie.Need-loop-holds Inv-loop μ-loop
 loop-holds c = search needs
@@ -19,8 +21,20 @@ loop-holds c = search needs
 returns : tie.Need-returns Inv-loop μ-loop
 returns c = (search needs, record { all = λ e. let z : _≡_ {A = ℕ} 0 1 = cc in omega arith })
 
-step-requires : tie.Need-step-requires Inv-loop μ-loop
-step-requires c κs = search needs
+next-line-requires : tie.Need-next-line-requires Inv-loop μ-loop
+next-line-requires c κs = search needs
+
+sub-answer : tie.Need-sub-answer Inv-loop μ-loop
+sub-answer c = search needs
+
+part-answer-start : tie.Need-part-answer-start Inv-loop μ-loop
+part-answer-start c = search needs
+
+part-answer-end : tie.Need-part-answer-end Inv-loop μ-loop
+part-answer-end c = search needs
+
+answer-requires : tie.Need-answer-requires Inv-loop μ-loop
+answer-requires c κs = search needs
 
 loop-less : tie.Need-loop-less Inv-loop μ-loop
 loop-less c = search needs
@@ -34,4 +48,17 @@ returns-2 c = search needs
 pub answer-spec : {M : Type 1} → statement M
 answer-spec =
     tie.close
-    (tie.spec Inv-loop μ-loop loop-holds returns step-requires loop-less loop-again returns-2)
+    (tie.spec
+    Inv-loop
+    μ-loop
+    loop-holds
+    returns
+    next-line-requires
+    sub-answer
+    part-answer-start
+    part-answer-end
+    answer-requires
+    loop-less
+    loop-again
+    returns-2)
+
