@@ -1,18 +1,9 @@
--- What the contracts of `lines` cite: the value of a hexadecimal digit, and a sound place in the two blocks. Assumes nothing.
+-- What the contracts of `lines` cite: a sound place in the two blocks. Assumes nothing.
 use Prim.Native.Nat.{ℕ, _+_, _-_, _≤_, _<_}
 use mathlib.Core.Bool.{false}
 use mathlib.Core.Path.{_≡_}
 use Rattle.lines.specs.declared.State.{State}
 use Rattle.lines.specs.declared.cut.Cut.{Cut}
-
--- r is the value of the lower-case digit c, or 16 where c is none
-pub record Digit (c r : ℕ) : Type 0 where
-  pub decimal : 48 ≤ c → c ≤ 57 → r ≡ c - 48
-  pub letter : 97 ≤ c → c ≤ 102 → r ≡ c - 87
-  pub below : c < 48 → r ≡ 16
-  pub between : 57 < c → c < 97 → r ≡ 16
-  pub above : 102 < c → r ≡ 16
-  pub least : r ≤ 16
 
 -- The current line starts at `from`, and no newline stands between there and `seen`: so much of it is short. `end` bytes are held, and
 -- `put` bytes wait to be written.

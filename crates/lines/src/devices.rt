@@ -1,10 +1,10 @@
 // The current device, and the line that is handed to it.
-use crate::Block;
 use crate::cut::Kind;
-use crate::parse::is;
-use crate::put::put;
-use crate::put::unknown;
 use crate::reset_lines;
+use words::Block;
+use words::pattern::fits;
+use words::put::put;
+use words::put::unknown;
 ghost use Prim.Native.Nat.{_+_, _≤_, _<_};
 ghost use mathlib.Core.Path.{_≡_};
 ghost use lib.ListN.{length};
@@ -58,7 +58,7 @@ pub fn answer(
         }
         Kind::Whole => {}
     }
-    if is(line, b"i8042") {
+    if fits(line, b"i8042") {
         return Said {
             device: Device::Reset,
             put: put(out, at, b"i8042\n"),

@@ -6,8 +6,6 @@
 // reads or writes a file.
 mod cut;
 pub mod devices;
-mod parse;
-mod put;
 mod reset_lines;
 
 use devices::Clock;
@@ -15,12 +13,11 @@ use devices::Device;
 use devices::Pos;
 use devices::Regs;
 use devices::Ring;
+use words::Block;
 ghost use Prim.Native.Nat.{_+_, _-_, _≤_, _<_};
 ghost use mathlib.Core.Path.{_≡_};
 ghost use lib.ListN.{length};
 ghost use Rattle.lines.specs.Lines.{Sound, Answered};
-
-pub type Block = [u8; 65536];
 
 // Answers stop once more than this is used of `out`: no answer is longer than 4,096 bytes.
 const ENOUGH: usize = 61440;

@@ -1,31 +1,47 @@
 // The lines of the reset controller.
-use crate::Block;
-use crate::parse::Access;
-use crate::parse::access_in;
-use crate::put::put;
-use crate::put::put_byte;
-use crate::put::unknown;
-ghost use Prim.Native.Nat.{_+_, _≤_, _<_};
-ghost use mathlib.Core.Path.{_≡_};
-ghost use lib.ListN.{length};
+use i8042::serialpost_i8042_read;
+use i8042::serialpost_i8042_write;
+use words::Block;
+use words::hex::byte_at;
+use words::pattern::fits;
+use words::put::put;
+use words::put::put_byte;
+use words::put::unknown;
+ghost use Prim.Native.Nat.{_+_, _≤_};
+ghost use Rattle.words.specs.Put.{Puts};
+ghost use Rattle.lines.specs.Reset.{resetAnswer, writeAnswer, readAnswer};
 
 pub fn answer(line: &[u8], out: &mut Block, at: usize) -> usize
     requires { ⌜ at + 4096 ≤ 65536 ⌝ }
-    ensures { λ r. ⌜ r ≤ 65536 ⌝ }
+    ensures { λ r. ⌜ Puts (now (out .entry)) at (resetAnswer (now (line .entry))) (now (out .exit)) r ⌝ }
+    ensures { λ r. ⌜ r ≤ at + 4096 ⌝ }
 {
-    match access_in(line) {
-        Access::Write(offset, value) => {
-            if i8042::serialpost_i8042_write(offset, value) {
-                return put(out, at, b"w reset\n");
-            }
-            put(out, at, b"w --\n")
-        }
-        Access::Read(offset) => {
-            let value = i8042::serialpost_i8042_read(offset);
-            let a = put(out, at, b"r ");
-            let b = put_byte(out, a, value);
-            put(out, b, b"\n")
-        }
-        Access::Other => unknown(out, at),
+    if fits(line, b"w OO VV") {
+        return write(byte_at(line, 2), byte_at(line, 5), out, at);
     }
+    if fits(line, b"r OO") {
+        return read(byte_at(line, 2), out, at);
+    }
+    unknown(out, at)
+}
+
+fn write(offset: u8, value: u8, out: &mut Block, at: usize) -> usize
+    requires { ⌜ at + 4096 ≤ 65536 ⌝ }
+    ensures { λ r. ⌜ Puts (now (out .entry)) at (writeAnswer offset value) (now (out .exit)) r ⌝ }
+    ensures { λ r. ⌜ r ≤ at + 4096 ⌝ }
+{
+    if serialpost_i8042_write(offset, value) {
+        return put(out, at, b"w reset\n");
+    }
+    put(out, at, b"w --\n")
+}
+
+fn read(offset: u8, out: &mut Block, at: usize) -> usize
+    requires { ⌜ at + 4096 ≤ 65536 ⌝ }
+    ensures { λ r. ⌜ Puts (now (out .entry)) at (readAnswer offset) (now (out .exit)) r ⌝ }
+    ensures { λ r. ⌜ r ≤ at + 4096 ⌝ }
+{
+    let a = put(out, at, b"r ");
+    let b = put_byte(out, a, serialpost_i8042_read(offset));
+    put(out, b, b"\n")
 }

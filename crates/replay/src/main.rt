@@ -5,12 +5,12 @@
 use libc::STDERR_FILENO;
 use libc::STDIN_FILENO;
 use libc::STDOUT_FILENO;
-use lines::Block;
 use lines::State;
 use lines::devices::Clock;
 use lines::devices::Pos;
 use lines::devices::Regs;
 use lines::devices::Ring;
+use words::Block;
 ghost use Prim.Native.Nat.{_+_, _≤_};
 ghost use mathlib.Core.Path.{_≡_};
 ghost use lib.ListN.{length};
@@ -169,6 +169,12 @@ fn main() {
     let mut pos = [0u32; 2];
     let mut ring = [0u8; 64];
     run(
-        &mut held, &mut clock, &mut time, &mut regs, &mut pos, &mut ring, &mut out,
+        &mut held,
+        &mut clock,
+        &mut time,
+        &mut regs,
+        &mut pos,
+        &mut ring,
+        &mut out,
     );
 }

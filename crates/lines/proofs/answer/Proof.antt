@@ -61,4 +61,3 @@ answer-spec =
     loop-less
     loop-again
     returns-2)
-

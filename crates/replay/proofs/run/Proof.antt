@@ -57,4 +57,3 @@ run-spec =
     loop-less
     loop-again
     returns-2)
-

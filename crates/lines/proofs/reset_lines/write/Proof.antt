@@ -1,0 +1,37 @@
+use mathlib.Core.Path.{sym, _∙_}
+use borrow.Author.Needs.{needs}
+use Rattle.lines.proofs.reset_lines.write.Statement.{statement}
+use Rattle.lines.proofs.reset_lines.write.Tie as tie
+
+serialpost-i8042-write-requires : tie.Need-serialpost-i8042-write-requires
+serialpost-i8042-write-requires c κs = search needs
+
+slice-aggregate-put : tie.Need-slice-aggregate-put
+slice-aggregate-put c = search needs
+
+put-requires : tie.Need-put-requires
+put-requires c κs = search needs
+
+returns : tie.Need-returns
+returns c = (rw (sym (c .before .before .before .before .serialpost-i8042-write .ensures) ∙ c .before .before .before .if1 .taken) (c .put .ensures), search needs)
+
+slice-aggregate-put-2 : tie.Need-slice-aggregate-put-2
+slice-aggregate-put-2 c = search needs
+
+put-requires-2 : tie.Need-put-requires-2
+put-requires-2 c κs = search needs
+
+returns-2 : tie.Need-returns-2
+returns-2 c = (rw (sym (c .before .before .before .before .serialpost-i8042-write .ensures) ∙ c .before .before .before .if1 .left) (c .put2 .ensures), search needs)
+
+pub write-spec : {M : Type 1} → statement M
+write-spec =
+    tie.close
+    (tie.spec
+    serialpost-i8042-write-requires
+    slice-aggregate-put
+    put-requires
+    returns
+    slice-aggregate-put-2
+    put-requires-2
+    returns-2)

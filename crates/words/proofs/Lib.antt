@@ -1,0 +1,2 @@
+pub mod Putting
+mod Patterns

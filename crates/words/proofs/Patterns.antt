@@ -1,0 +1,42 @@
+-- Laws of `fitsOf`, for a search that goes along a line and a pattern.
+-- Assumes nothing.
+use Prim.Native.Nat.{ℕ, suc, _+_, _≤_, _<_}
+use mathlib.Core.Path.{_≡_, refl, sym, ap, _∙_}
+use mathlib.Core.Bool.{Bool, true, false, _&&_}
+use mathlib.Core.List.{List, [], _∷_}
+use native.Mathlib.Numerals.{add-one}
+use native.Mathlib.Omega.{arith}
+use lib.ListN.{length, getD, drop, drop-of-length-le}
+use lib.Seq.{drop-cons}
+use Rattle.words.specs.Pattern.{fitsOf, standsFor}
+
+-- a line of another length does not fit
+pub other-length : (pattern line : List ℕ) → (length line ≡ length pattern → ⊥) → fitsOf pattern line ≡ false
+unfolding fitsOf
+other-length [] [] h = absurd (h refl)
+other-length [] (c ∷ line) h = refl
+other-length (p ∷ pattern) [] h = refl
+other-length (p ∷ pattern) (c ∷ line) h = after (standsFor p c) (other-length pattern line (λ e. h (ap suc e)))
+  where
+    after : (b : Bool) → fitsOf pattern line ≡ false → b && fitsOf pattern line ≡ false
+    after true e = e
+    after false e = refl
+
+module _ (pattern line : List ℕ) (i : ℕ) where
+  -- from a place on: the characters there, and the rest
+  along : i < length pattern → i < length line → fitsOf (drop i pattern) (drop i line) ≡ standsFor (getD pattern i 0) (getD line i 0) && fitsOf (drop (i + 1) pattern) (drop (i + 1) line)
+  unfolding fitsOf
+  along p l = rw (add-one, drop-cons pattern i 0 p, drop-cons line i 0 l)
+
+  -- a character that its pattern does not stand for
+  pub fails : i < length pattern → i < length line → standsFor (getD pattern i 0) (getD line i 0) ≡ false → fitsOf (drop i pattern) (drop i line) ≡ false
+  fails p l e = along p l ∙ rw e
+
+  -- one that it stands for
+  pub goes-on : i < length pattern → i < length line → standsFor (getD pattern i 0) (getD line i 0) ≡ true → fitsOf (drop i pattern) (drop i line) ≡ fitsOf (drop (i + 1) pattern) (drop (i + 1) line)
+  goes-on p l e = along p l ∙ rw e
+
+  -- the end of both
+  pub ends : length pattern ≤ i → length line ≤ i → fitsOf (drop i pattern) (drop i line) ≡ true
+  unfolding fitsOf
+  ends p l = rw (drop-of-length-le pattern p, drop-of-length-le line l)

@@ -1,0 +1,4 @@
+pub mod Hex
+pub mod Pattern
+pub mod Put
+pub mod Text

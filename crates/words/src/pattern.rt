@@ -1,0 +1,36 @@
+// What a line looks like.
+use crate::hex::value;
+ghost use mathlib.Core.Path.{_≡_};
+ghost use lib.ListN.{length};
+ghost use Rattle.words.specs.Pattern.{fitsOf, standsFor};
+
+// Whether `line` looks like `pattern`, as `w OO VV`, in which a capital letter stands for a
+// hexadecimal digit and every other character for itself.
+pub fn fits(line: &[u8], pattern: &[u8]) -> bool
+    ensures { λ r. ⌜ r ≡ fitsOf (now (pattern .entry)) (now (line .entry)) ⌝ }
+{
+    let n = pattern.len();
+    if line.len() != n {
+        return false;
+    }
+    let mut i = 0;
+    while i < n {
+        if !stands_for(pattern[i], line[i]) {
+            return false;
+        }
+        i += 1;
+    }
+    true
+}
+
+fn stands_for(p: u8, c: u8) -> bool
+    ensures { λ r. ⌜ r ≡ standsFor p c ⌝ }
+{
+    if p < b'A' {
+        return c == p;
+    }
+    if p > b'Z' {
+        return c == p;
+    }
+    value(c) < 16
+}
