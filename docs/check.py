@@ -1,9 +1,11 @@
 #!/usr/bin/env python3
 """Holds the documents to the tree: each says only what is there.
 
-- every row of docs/DIFFERENCES.md (a heading `### name`) has a list lists/differences/name.list, and every such list has a row;
-- every row that a definition or a proof names ("DIFFERENCES, ...") is there;
-- every theorem of docs/THEOREMS.md, written `name` ([file](path)), is declared in that file, and every path exists.
+- every row of docs/DIFFERENCES.md (a heading `### name`) has a list lists/differences/name.list, or says that no list shows it, and every
+  such list has a row;
+- every row that a definition names ("DIFFERENCES, ...") is there;
+- every theorem of docs/THEOREMS.md, written `name` ([file](path)), is declared in that file;
+- every link to a file leads to one.
 
 The last line is `docs: N passed, M failed`.
 """
@@ -13,7 +15,6 @@ import re
 import sys
 
 ROOT = os.path.dirname(os.path.dirname(os.path.abspath(__file__)))
-ROW = re.compile(r"\b(?:i8042|clock|serial)-[a-z0-9]+(?:-[a-z0-9]+)*\b")
 
 
 def read(path):
@@ -25,26 +26,30 @@ def tree(pattern):
     return sorted(os.path.relpath(path, ROOT) for path in glob.glob(os.path.join(ROOT, pattern), recursive=True))
 
 
+def rows():
+    """The rows of docs/DIFFERENCES.md, each with its text."""
+    return dict(re.findall(r"^### ([a-z0-9-]+)\n(.*?)(?=^##|\Z)", read("docs/DIFFERENCES.md"), re.M | re.S))
+
+
 def rows_have_lists():
-    rows = set(re.findall(r"^### ([a-z0-9-]+)$", read("docs/DIFFERENCES.md"), re.M))
+    shown = {name for name, text in rows().items() if "**Shown by** no list" not in text}
     lists = {os.path.basename(path)[: -len(".list")] for path in tree("lists/differences/*.list")}
-    for name in sorted(rows - lists):
+    for name in sorted(shown - lists):
         yield f"the row {name} has no list in lists/differences"
-    for name in sorted(lists - rows):
+    for name in sorted(lists - shown):
         yield f"lists/differences/{name}.list has no row in docs/DIFFERENCES.md"
 
 
 def named_rows_exist():
-    rows = set(re.findall(r"^### ([a-z0-9-]+)$", read("docs/DIFFERENCES.md"), re.M))
-    for path in tree("crates/*/specs/*.antt") + tree("crates/*/src/*.rt"):
-        for line in re.findall(r"DIFFERENCES,[^\n]*(?:\n-- [^\n]*\")?", read(path)):
-            for name in re.findall(r'"([a-z0-9-]+)"', line):
-                if name not in rows:
-                    yield f"{path} names the row {name}, which docs/DIFFERENCES.md does not have"
+    known = rows()
+    for path in tree("crates/*/specs/*.antt"):
+        for name in re.findall(r'"((?:i8042|clock|serial)-[a-z0-9-]+)"', read(path)):
+            if name not in known:
+                yield f"{path} names the row {name}, which docs/DIFFERENCES.md does not have"
 
 
 def theorems_exist():
-    cited = re.findall(r"`([^`\s]+)` \(\[[^\]]*\]\(\.\./([^)]+)\)\)", read("docs/THEOREMS.md"))
+    cited = re.findall(r"`([^`\s]+)`\s+\(\[[^\]]*\]\(\.\./([^)]+)\)\)", read("docs/THEOREMS.md"))
     if not cited:
         yield "docs/THEOREMS.md cites no theorem"
     for name, path in cited:
