@@ -1,0 +1,5 @@
+pub mod Bytes
+pub mod Time
+pub mod Registers
+pub mod Stores
+pub mod Steps

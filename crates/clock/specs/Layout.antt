@@ -1,0 +1,60 @@
+-- How the clock lies in the caller's six words, how a register's number lies in four bytes, and what the entry points
+-- promise. Every six words are some clock.
+use Prim.Native.Nat.{ℕ, _+_, _*_, _^_}
+use mathlib.Core.Path.{_≡_}
+use mathlib.Core.Bool.{Bool, true, false, cond}
+use mathlib.Core.List.{List}
+use lib.Dec.{ltb}
+use lib.IntN.{ℤ, pos, _-ℤ_}
+use lib.ListN.{getD}
+use Rattle.clock.specs.Bytes.{bytesOf, valueOf}
+use Rattle.clock.specs.Registers.{Clock, Reply, says, refused, Change, becomes, ignored, readOf, writeOf}
+
+-- 64 bits in two halves.
+abbrev pub joined : ℕ → ℕ → ℕ
+joined low high = low + 2 ^ 32 * high
+
+-- The signed number that 64 bits are in two's complement.
+unfoldable pub signed : ℕ → ℤ
+signed bits = cond (ltb bits (2 ^ 63)) (pos bits) (pos bits -ℤ pos (2 ^ 64))
+
+unfoldable pub clockOf : List ℕ → Clock
+clockOf words = record {
+  lr = getD words 0 0;
+  mr = getD words 1 0;
+  imsc = getD words 2 0;
+  ris = getD words 3 0;
+  ahead = signed (joined (getD words 4 0) (getD words 5 0));
+}
+
+-- What the caller's bytes are after a read.
+abbrev pub bytesAfter : Reply → List ℕ → List ℕ
+bytesAfter (says v) bytes = bytesOf 4 v
+bytesAfter refused bytes = bytes
+
+abbrev pub readValid : Reply → Bool
+readValid (says v) = true
+readValid refused = false
+
+abbrev pub clockAfter : Change → Clock → Clock
+clockAfter (becomes c′) c = c′
+clockAfter ignored c = c
+
+abbrev pub writeValid : Change → Bool
+writeValid (becomes c′) = true
+writeValid ignored = false
+
+-- A read: the bytes afterwards, and whether it was valid.
+pub record Reads (reply : Reply) (before after : List ℕ) (valid : Bool) : Type 0 where
+  pub bytes : after ≡ bytesAfter reply before
+  pub validity : valid ≡ readValid reply
+
+-- A write: the clock afterwards, and whether it was valid.
+pub record Writes (change : Change) (before after : List ℕ) (valid : Bool) : Type 0 where
+  pub clock : clockOf after ≡ clockAfter change (clockOf before)
+  pub validity : valid ≡ writeValid change
+
+-- A read that is answered.
+pub record Answered (value : ℕ) (after : List ℕ) (valid : Bool) : Type 0 where
+  pub bytes : after ≡ bytesOf 4 value
+  pub validity : valid ≡ true
