@@ -1,3 +1,4 @@
 pub mod Bytes
 pub mod Registers
 pub mod Layout
+pub mod Runs
