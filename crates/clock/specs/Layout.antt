@@ -1,5 +1,5 @@
 -- How the clock lies in the caller's six words, how a register's number lies in four bytes, and what the entry points
--- promise. Every six words are some clock.
+-- promise of both. Any six words are some clock.
 use Prim.Native.Nat.{ℕ, _+_, _*_, _^_}
 use mathlib.Core.Path.{_≡_}
 use mathlib.Core.Bool.{Bool, true, false, cond}
@@ -7,10 +7,12 @@ use mathlib.Core.List.{List}
 use lib.Dec.{ltb}
 use lib.IntN.{ℤ, pos, _-ℤ_}
 use lib.ListN.{getD}
-use Rattle.clock.specs.Bytes.{bytesOf, valueOf}
-use Rattle.clock.specs.Registers.{Clock, Reply, says, refused, Change, becomes, ignored, readOf, writeOf}
+use Rattle.clock.specs.Bytes.{bytesOf}
+use Rattle.clock.specs.Registers.{Clock, Reply, says, refused, Change, becomes, ignored}
 
--- 64 bits in two halves.
+-- ---- Words
+
+-- The 64 bits of two halves.
 abbrev pub joined : ℕ → ℕ → ℕ
 joined low high = low + 2 ^ 32 * high
 
@@ -27,7 +29,9 @@ clockOf words = record {
   ahead = signed (joined (getD words 4 0) (getD words 5 0));
 }
 
--- What the caller's bytes are after a read.
+-- ---- A read
+
+-- The caller's bytes afterwards.
 abbrev pub bytesAfter : Reply → List ℕ → List ℕ
 bytesAfter (says v) bytes = bytesOf 4 v
 bytesAfter refused bytes = bytes
@@ -36,6 +40,18 @@ abbrev pub readValid : Reply → Bool
 readValid (says v) = true
 readValid refused = false
 
+pub record Reads (reply : Reply) (before after : List ℕ) (valid : Bool) : Type 0 where
+  pub bytes : after ≡ bytesAfter reply before
+  pub validity : valid ≡ readValid reply
+
+-- The part of it that is the same for every value.
+pub record Answered (value : ℕ) (after : List ℕ) (valid : Bool) : Type 0 where
+  pub bytes : after ≡ bytesOf 4 value
+  pub validity : valid ≡ true
+
+-- ---- A write
+
+-- The clock afterwards.
 abbrev pub clockAfter : Change → Clock → Clock
 clockAfter (becomes c′) c = c′
 clockAfter ignored c = c
@@ -44,17 +60,6 @@ abbrev pub writeValid : Change → Bool
 writeValid (becomes c′) = true
 writeValid ignored = false
 
--- A read: the bytes afterwards, and whether it was valid.
-pub record Reads (reply : Reply) (before after : List ℕ) (valid : Bool) : Type 0 where
-  pub bytes : after ≡ bytesAfter reply before
-  pub validity : valid ≡ readValid reply
-
--- A write: the clock afterwards, and whether it was valid.
 pub record Writes (change : Change) (before after : List ℕ) (valid : Bool) : Type 0 where
   pub clock : clockOf after ≡ clockAfter change (clockOf before)
   pub validity : valid ≡ writeValid change
-
--- A read that is answered.
-pub record Answered (value : ℕ) (after : List ℕ) (valid : Bool) : Type 0 where
-  pub bytes : after ≡ bytesOf 4 value
-  pub validity : valid ≡ true

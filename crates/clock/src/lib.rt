@@ -1,17 +1,52 @@
-// A PL031 real time clock that lives in six words of the caller's memory: the load, match, mask and raw status registers,
-// and how many seconds the clock is ahead of the host's time, a signed 64-bit number in two halves. Every six words are some
-// clock, so nothing is refused for its state. The host's time is an argument of each access.
+// A PL031 real time clock that lies in six words of the caller's memory: four registers, and how many seconds the clock is
+// ahead of the host's time, a signed number of 64 bits in two halves. Any six words are some clock, so no state is refused.
+// The host hands its time to each access; nothing here asks for it.
 ghost use mathlib.Core.Path.{_≡_};
-ghost use mathlib.Core.Bool.{Bool, true, false};
 ghost use mathlib.Core.List.{[], _∷_};
-ghost use Prim.Native.Nat.{_-_, _/_, _≤_, _%_, _^_};
+ghost use Prim.Native.Nat.{_-_, _/_, _%_, _^_, _≤_};
 ghost use lib.IntN.{pos, _-ℤ_};
 ghost use lib.ListN.{length, getD};
-ghost use Rattle.clock.specs.Bytes.{bytesOf, valueOf};
+ghost use Rattle.clock.specs.Bytes.{valueOf};
 ghost use Rattle.clock.specs.Registers.{fresh, shown, ids, withLr, readOf, writeOf};
 ghost use Rattle.clock.specs.Layout.{joined, signed, clockOf, Answered, Reads, Writes};
 
-// ---- Arrays are as long as their types say
+// ---- The six words
+
+const LOAD: usize = 0;
+
+const MATCH: usize = 1;
+
+const MASK: usize = 2;
+
+const RAW_STATUS: usize = 3;
+
+const AHEAD_LOW: usize = 4;
+
+const AHEAD_HIGH: usize = 5;
+
+// ---- The registers' offsets, by the manual's names
+
+const RTCDR: u16 = 0x000;
+
+const RTCMR: u16 = 0x004;
+
+const RTCLR: u16 = 0x008;
+
+const RTCCR: u16 = 0x00c;
+
+const RTCIMSC: u16 = 0x010;
+
+const RTCRIS: u16 = 0x014;
+
+const RTCMIS: u16 = 0x018;
+
+const RTCICR: u16 = 0x01c;
+
+const ID_FIRST: u16 = 0xfe0;
+
+const ID_LAST: u16 = 0xfff;
+
+// ---- Arrays are as long as their types say: calls that tell a proof so, and compile to nothing
 
 fn six(x: &[u32; 6])
     ensures { λ r. ⌜ length (now (x .entry)) ≡ 6 ⌝ }
@@ -25,9 +60,9 @@ fn four(x: &[u8; 4])
     let s: &[u8] = x;
 }
 
-// ---- Four bytes and the number that they are
+// ---- Four bytes and the number that they are, lowest byte first
 
-// Puts `value` into the caller's bytes: the answer of a valid read.
+// Puts `value` into the caller's bytes, and answers true: a valid read.
 fn answer(bytes: &mut [u8; 4], value: u32) -> bool
     ensures { λ r. ⌜ Answered value (now (bytes .exit)) r ⌝ }
 {
@@ -54,77 +89,78 @@ fn value_of(bytes: &[u8; 4]) -> u32
 
 // ---- Time
 
-// The host's time, cut to 32 bits.
+// The host's time as the clock takes it: its lowest 32 bits.
 fn seconds(time: u64) -> u32
     ensures { λ r. ⌜ r ≡ time % 2 ^ 32 ⌝ }
 {
     (time % 0x1_0000_0000) as u32
 }
 
-fn joined(low: u32, high: u32) -> u64
+fn join(low: u32, high: u32) -> u64
     ensures { λ r. ⌜ r ≡ joined low high ⌝ }
 {
     (low as u64) + 0x1_0000_0000 * (high as u64)
 }
 
-// What the clock shows. The sum wraps at 64 bits, and is below 2^32 exactly where the true sum fits 32 bits.
+// What the clock shows. Two's complement wraps, so the wrapped sum is below 2^32 exactly where the true sum is not negative
+// and fits 32 bits.
 fn counter(now: u32, low: u32, high: u32) -> u32
     ensures { λ r. ⌜ r ≡ shown now (signed (joined low high)) ⌝ }
 {
-    let sum = std::num::wrapping_add_u64(now as u64, joined(low, high));
+    let sum = std::num::wrapping_add_u64(now as u64, join(low, high));
     if sum < 0x1_0000_0000 {
         return sum as u32;
     }
     now
 }
 
-// How far a clock that shows `value` is ahead of `now`.
+// How many seconds a clock that shows `value` is ahead of `now`.
 fn difference(value: u32, now: u32) -> u64
     ensures { λ r. ⌜ signed r ≡ pos value -ℤ pos now ⌝ }
 {
     std::num::wrapping_sub_u64(value as u64, now as u64)
 }
 
-// Stores the load register and how far the clock is ahead, which belong together.
+// Stores what a write of the load register changes: the register, and how far the clock is ahead.
 fn adjust(clock: &mut [u32; 6], load: u32, ahead: u64)
     ensures { λ r. ⌜ clockOf (now (clock .exit)) ≡ withLr (clockOf (now (clock .entry))) load (signed ahead) ⌝ }
 {
     six(clock);
-    clock[0] = load;
-    clock[4] = (ahead % 0x1_0000_0000) as u32;
-    clock[5] = (ahead / 0x1_0000_0000) as u32;
+    clock[LOAD] = load;
+    clock[AHEAD_LOW] = (ahead % 0x1_0000_0000) as u32;
+    clock[AHEAD_HIGH] = (ahead / 0x1_0000_0000) as u32;
 }
 
 // ---- Identification
 
 const IDS: [u32; 8] = [0x31, 0x10, 0x04, 0x00, 0x0d, 0xf0, 0x05, 0xb1];
 
-// The identification register at `offset` from 0xfe0 to 0xfff.
 fn identity(offset: u16) -> u32
     requires { ⌜ (0xfe0 ≤ offset) × (offset ≤ 0xfff) ⌝ }
     ensures { λ r. ⌜ r ≡ getD ids ((offset - 0xfe0) / 4) 0 ⌝ }
 {
-    let n = ((offset - 0xfe0) / 4) as usize;
+    let n = ((offset - ID_FIRST) / 4) as usize;
     IDS[n]
 }
 
 // ---- The entry points
 
-// A fresh clock, whatever the words were.
+// Makes the six words a fresh clock, whatever they were.
 #[no_mangle]
 pub extern "C" fn serialpost_clock_init(clock: &mut [u32; 6])
     ensures { λ r. ⌜ clockOf (now (clock .exit)) ≡ fresh ⌝ }
 {
     six(clock);
-    clock[0] = 0;
-    clock[1] = 0;
-    clock[2] = 0;
-    clock[3] = 0;
-    clock[4] = 0;
-    clock[5] = 0;
+    clock[LOAD] = 0;
+    clock[MATCH] = 0;
+    clock[MASK] = 0;
+    clock[RAW_STATUS] = 0;
+    clock[AHEAD_LOW] = 0;
+    clock[AHEAD_HIGH] = 0;
 }
 
-// The guest reads four bytes at `offset` as the host's clock says `time`. False: the read was invalid and the bytes stay.
+// The guest reads at `offset` while the host's clock says `time`, in seconds. True: the answer is in `bytes`. False: the read
+// was invalid and `bytes` are as they were.
 #[no_mangle]
 pub extern "C" fn serialpost_clock_read(
     clock: &[u32; 6],
@@ -134,29 +170,33 @@ pub extern "C" fn serialpost_clock_read(
 ) -> bool
     ensures { λ r. ⌜ Reads (readOf (clockOf (now (clock .entry))) time offset) (now (bytes .entry)) (now (bytes .exit)) r ⌝ }
 {
-    if offset == 0x000 {
-        return answer(bytes, counter(seconds(time), clock[4], clock[5]));
+    // By itself and first: it is what guests read again and again.
+    if offset == RTCDR {
+        return answer(
+            bytes,
+            counter(seconds(time), clock[AHEAD_LOW], clock[AHEAD_HIGH]),
+        );
     }
     match offset {
-        0x004 => {
-            return answer(bytes, clock[1]);
+        RTCMR => {
+            return answer(bytes, clock[MATCH]);
         }
-        0x008 => {
-            return answer(bytes, clock[0]);
+        RTCLR => {
+            return answer(bytes, clock[LOAD]);
         }
-        0x00c => {
+        RTCCR => {
             return answer(bytes, 1);
         }
-        0x010 => {
-            return answer(bytes, clock[2]);
+        RTCIMSC => {
+            return answer(bytes, clock[MASK]);
         }
-        0x014 => {
-            return answer(bytes, clock[3]);
+        RTCRIS => {
+            return answer(bytes, clock[RAW_STATUS]);
         }
-        0x018 => {
-            return answer(bytes, clock[3] & clock[2]);
+        RTCMIS => {
+            return answer(bytes, clock[RAW_STATUS] & clock[MASK]);
         }
-        0xfe0..=0xfff => {
+        ID_FIRST..=ID_LAST => {
             return answer(bytes, identity(offset));
         }
         _ => {
@@ -165,7 +205,8 @@ pub extern "C" fn serialpost_clock_read(
     }
 }
 
-// The guest writes four bytes at `offset` as the host's clock says `time`. False: the write was invalid and nothing changed.
+// The guest writes `bytes` at `offset` while the host's clock says `time`, in seconds. False: the write was invalid and changed
+// nothing.
 #[no_mangle]
 pub extern "C" fn serialpost_clock_write(
     clock: &mut [u32; 6],
@@ -178,27 +219,27 @@ pub extern "C" fn serialpost_clock_write(
     six(clock);
     let value = value_of(bytes);
     match offset {
-        0x004 => {
-            clock[1] = value;
+        RTCMR => {
+            clock[MATCH] = value;
             return true;
         }
-        0x008 => {
+        RTCLR => {
             adjust(clock, value, difference(value, seconds(time)));
             return true;
         }
-        0x00c => {
+        RTCCR => {
             if value == 1 {
                 adjust(clock, 0, 0);
                 return true;
             }
             return true;
         }
-        0x010 => {
-            clock[2] = value % 2;
+        RTCIMSC => {
+            clock[MASK] = value % 2;
             return true;
         }
-        0x01c => {
-            clock[3] = clock[3] & !value;
+        RTCICR => {
+            clock[RAW_STATUS] = clock[RAW_STATUS] & !value;
             return true;
         }
         _ => {

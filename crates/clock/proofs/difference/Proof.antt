@@ -1,3 +1,5 @@
+-- `difference` meets its contract. The wrapped difference is the difference of integers.
+-- Assumes nothing.
 use native.Mathlib.Omega.{arith}
 use Rattle.clock.proofs.Time.{difference-signed}
 use borrow.Author.Needs.{needs}

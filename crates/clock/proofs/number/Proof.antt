@@ -1,3 +1,5 @@
+-- `number` meets its contract. The sum of the weighted bytes is the number that they are.
+-- Assumes nothing.
 use native.Mathlib.Omega.{arith}
 use Rattle.clock.specs.Bytes.{valueOf}
 use borrow.Author.Needs.{needs}

@@ -1,3 +1,5 @@
+-- `serialpost_clock_init` meets its contract. Six stores of 0 are the fresh clock.
+-- Assumes nothing.
 use Rattle.clock.proofs.Stores.{cleared}
 use borrow.Author.Needs.{needs}
 use Rattle.clock.proofs.serialpost_clock_init.Statement.{statement}

@@ -1,3 +1,5 @@
+-- `serialpost_clock_write` meets its contract. Each return is the rule of the register at its offset.
+-- Assumes nothing.
 use mathlib.Core.Path.{refl}
 use Rattle.clock.specs.Layout.{clockOf}
 use Rattle.clock.proofs.Registers.{writes-mr, writes-imsc, writes-icr, writes-nothing}
