@@ -3,9 +3,10 @@
 use mathlib.Core.Path.{_≡_, refl}
 use mathlib.Core.Bool.{Bool, true, false}
 use mathlib.Core.List.{List, [], _∷_}
-use Prim.Native.Nat.{ℕ}
+use Prim.Native.Nat.{ℕ, _/_, _%_, _^_}
+use lib.ListN.{take, drop}
 use Rattle.clock.specs.Bytes.{bytesOf, valueOf}
-use Rattle.clock.specs.Registers.{Clock, registerAt, fresh, shown, rule, readOf, writeOf}
+use Rattle.clock.specs.Registers.{Clock, registerAt, fresh, ids, shown, rule, readOf, writeOf}
 use Rattle.clock.specs.Runs.{Access, read, write, Result, resultOf, next, results, answers}
 
 -- The caller's bytes before a read.
@@ -66,3 +67,20 @@ driver-alarm = refl
 left-alone : results fresh (gets 0 0x01c ∷ gets 0 0x020 ∷ gets 0 0x001 ∷ gets 0 0x1000 ∷ []) ≡ left ∷ left ∷ left ∷ left ∷ []
 unfolding resultOf next readOf writeOf registerAt rule shown fresh bytesOf valueOf
 left-alone = refl
+
+-- The identification bytes as the manual reads them: part 0x031, designer 0x41, revision 0; and PrimeCell's number.
+part-number : valueOf (take 4 ids) % 2 ^ 12 ≡ 0x031
+unfolding valueOf
+part-number = refl
+
+designer : valueOf (take 4 ids) / 2 ^ 12 % 2 ^ 8 ≡ 0x41
+unfolding valueOf
+designer = refl
+
+revision : valueOf (take 4 ids) / 2 ^ 20 % 2 ^ 4 ≡ 0
+unfolding valueOf
+revision = refl
+
+prime-cell : valueOf (drop 4 ids) ≡ 0xb105_f00d
+unfolding valueOf
+prime-cell = refl

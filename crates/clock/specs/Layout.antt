@@ -1,5 +1,5 @@
 -- How the clock lies in the caller's six words, how a register's number lies in four bytes, and what the entry points
--- promise of both. Any six words are some clock.
+-- promise of both. Any six words are some clock. An access is of four bytes, always: DIFFERENCES, "clock-width".
 use Prim.Native.Nat.{ℕ, _+_, _*_, _^_}
 use mathlib.Core.Path.{_≡_}
 use mathlib.Core.Bool.{Bool, true, false, cond}

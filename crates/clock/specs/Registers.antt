@@ -105,7 +105,8 @@ rule MR c now = record { read = says (c .mr); write = λ v. becomes (withMr c v)
 -- RTCLR: the clock goes on from the value written; a read answers what was last written.
 rule LR c now = record { read = says (c .lr); write = λ v. becomes (withLr c v (pos v -ℤ pos now)) }
 -- RTCCR: the clock is on, from the first: DIFFERENCES, "clock-control-reads-1". By the manual a write does nothing once the
--- clock runs. Here a write of 1 puts it back to the host's time: DIFFERENCES, "clock-restarts".
+-- clock runs. Here a write of 1, as Linux and U-Boot do at each start, puts it back to the host's time: DIFFERENCES,
+-- "clock-restarts".
 rule CR c now = record { read = says 1; write = λ v. becomes (cond (eqb v 1) (withLr c 0 (pos 0)) c) }
 -- RTCIMSC: bit 0 lets the interrupt through.
 rule IMSC c now = record { read = says (c .imsc); write = λ v. becomes (withImsc c (v % 2)) }
