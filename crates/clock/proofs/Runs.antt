@@ -1,22 +1,21 @@
 -- Theorems over runs of the clock: any accesses, at any times, from any state unless a statement says otherwise.
 -- Assumes nothing.
 use mathlib.Core.Path.{_≡_, refl, sym, ap, _∙_}
-use mathlib.Core.Bool.{Bool, true, false, cond, _&&_}
+use mathlib.Core.Bool.{false}
 use mathlib.Core.List.{List, [], _∷_}
-use Prim.Native.Nat.{ℕ, suc, _+_, _-_, _*_, _/_, _%_, _^_, _≤_, _<_}
+use Prim.Native.Nat.{ℕ, suc, _+_, _-_, _/_, _%_, _^_, _≤_, _<_}
 use native.Mathlib.Decide.{decLt}
 use native.Mathlib.Omega.{arith}
 use lib.Bits.{bitAnd, and-zero-l}
 use lib.Dec.{lit<}
-use lib.IntN.{ℤ, pos, negsuc, _-ℤ_}
+use lib.IntN.{pos, negsuc, _-ℤ_}
 use lib.ListN.{getD}
 use borrow.Author.Tests.{lt-ltb, le-ltb, le-leb, lt-leb}
-use Rattle.clock.specs.Bytes.{bytesOf, valueOf}
-use Rattle.clock.specs.Registers.{Clock, fresh, Reply, says, refused, becomes, ignored, ids, sum, shown, without, withLr, withImsc, readOf, writeOf}
-use Rattle.clock.specs.Layout.{clockAfter}
-use Rattle.clock.specs.Runs.{Access, read, write, Result, resultOf, next, after, results, answers, All, KeepsTime, CannotWrite, seen}
+use Rattle.clock.specs.Bytes.{valueOf}
+use Rattle.clock.specs.Registers.{Clock, fresh, says, becomes, ids, sum, shown, withLr, readOf, writeOf}
+use Rattle.clock.specs.Runs.{Access, read, write, resultOf, next, after, answers, All, KeepsTime, CannotWrite, seen}
 use Rattle.clock.proofs.Time.{less, below, minus, shows-sum, shows-now-above, shows-now-below}
-use Rattle.clock.proofs.Registers.{write-cases, reads-dr, reads-lr, reads-imsc, reads-ris, reads-mis, reads-id, writes-lr, writes-cr, writes-imsc, writes-nothing}
+use Rattle.clock.proofs.Registers.{write-cases, reads-dr, reads-imsc, reads-ris, reads-mis, reads-id, writes-lr, writes-cr, writes-imsc, writes-nothing}
 
 -- ---- One access, by the definition's rules
 

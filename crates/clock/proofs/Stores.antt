@@ -4,8 +4,8 @@ use mathlib.Core.Path.{_≡_, refl}
 use mathlib.Core.List.{List, [], _∷_}
 use Prim.Native.Nat.{ℕ, _/_, _%_, _^_}
 use native.Mathlib.Omega.{arith}
-use lib.ListN.{length, getD, set}
-use Rattle.clock.specs.Registers.{Clock, fresh, withMr, withLr, withImsc, withRis}
+use lib.ListN.{length, set}
+use Rattle.clock.specs.Registers.{fresh, withMr, withLr, withImsc, withRis}
 use Rattle.clock.specs.Layout.{signed, clockOf}
 use Rattle.clock.proofs.Time.{halves}
 

@@ -1,12 +1,11 @@
 -- The clock's time is a sum of integers, with their signs; the code adds patterns of 64 bits. They agree for every pattern.
 -- Assumes nothing.
 use mathlib.Core.Path.{_≡_, refl, sym, ap, _∙_}
-use mathlib.Core.Bool.{Bool, true, false, cond}
-use Prim.Native.Nat.{ℕ, zero, suc, _+_, _-_, _*_, _/_, _%_, _^_, _≤_, _<_}
+use Prim.Native.Nat.{ℕ, zero, suc, _+_, _-_, _/_, _%_, _^_, _≤_, _<_}
 use native.Mathlib.Decide.{decLt}
 use native.Mathlib.Omega.{arith}
 use lib.Dec.{leb·zero}
-use lib.IntN.{ℤ, pos, negsuc, negℤ, _+ℤ_, _-ℤ_, subℕ}
+use lib.IntN.{ℤ, pos, negsuc, _-ℤ_, subℕ}
 use borrow.Author.Tests.{lt-ltb, le-ltb}
 use Rattle.clock.specs.Registers.{sum, shown}
 use Rattle.clock.specs.Layout.{joined, signed}

@@ -1,17 +1,16 @@
 -- Runs of the code: what the contracts promise of calls one after the other, on the same six words.
 -- Assumes nothing.
 use mathlib.Core.Path.{_≡_, refl, sym, ap, _∙_}
-use mathlib.Core.Bool.{Bool, true, false, cond}
-use mathlib.Core.List.{List, [], _∷_}
-use Prim.Native.Nat.{ℕ, zero, suc, _+_, _-_, _*_, _%_, _^_, _≤_, _<_}
+use mathlib.Core.Bool.{Bool, false, cond}
+use mathlib.Core.List.{List}
+use Prim.Native.Nat.{ℕ, zero, suc, _-_, _^_, _<_}
 use native.Mathlib.Decide.{decLt}
 use native.Mathlib.Omega.{arith}
 use lib.IntN.{ℤ, pos, negsuc}
 use lib.ListN.{length, getD}
 use lib.Seq.{ext-getD}
-use Rattle.clock.specs.Bytes.{valueOf}
-use Rattle.clock.specs.Registers.{Clock, Change, becomes, ignored, readOf, writeOf}
-use Rattle.clock.specs.Layout.{joined, signed, clockOf, Reads, Writes}
+use Rattle.clock.specs.Registers.{Clock, fresh, Change, becomes, ignored}
+use Rattle.clock.specs.Layout.{joined, signed, clockOf, Writes}
 use Rattle.clock.specs.Runs.{Access, read, write, Result, resultOf, next, after, results, Promised, Called, none, then}
 use Rattle.clock.proofs.Time.{signed-low, signed-high}
 
@@ -35,6 +34,11 @@ as-defined (then {words = words} {words′ = middle} {a = a} {rest = rest} {r = 
     let one = promised words a middle r p in
     let others = as-defined more in
     (cc, cc)
+
+-- So do calls on words that were just made a fresh clock.
+pub from-fresh : {words words′ : List ℕ} {run : List Access} {rs : List Result} → clockOf words ≡ fresh → Called words run words′ rs
+    → rs ≡ results fresh run
+from-fresh {run = run} e a = as-defined a .0 ∙ ap (λ (c : Clock). results c run) e
 
 -- Two clocks in the same state answer the same for ever.
 pub same-for-ever : {v v′ w w′ : List ℕ} {run : List Access} {rs ss : List Result} → clockOf v ≡ clockOf w

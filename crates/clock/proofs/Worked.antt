@@ -1,12 +1,12 @@
 -- Worked runs of the clock, by computation.
 -- Assumes nothing.
 use mathlib.Core.Path.{_≡_, refl}
-use mathlib.Core.Bool.{Bool, true, false}
+use mathlib.Core.Bool.{true, false}
 use mathlib.Core.List.{List, [], _∷_}
 use Prim.Native.Nat.{ℕ, _/_, _%_, _^_}
 use lib.ListN.{take, drop}
 use Rattle.clock.specs.Bytes.{bytesOf, valueOf}
-use Rattle.clock.specs.Registers.{Clock, registerAt, fresh, ids, shown, rule, readOf, writeOf}
+use Rattle.clock.specs.Registers.{registerAt, fresh, ids, shown, rule, readOf, writeOf}
 use Rattle.clock.specs.Runs.{Access, read, write, Result, resultOf, next, results, answers}
 
 -- The caller's bytes before a read.

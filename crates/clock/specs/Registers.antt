@@ -1,7 +1,7 @@
 -- The PL031 real time clock, register by register in the order of its manual (Arm DDI 0224), as this device answers.
 -- Where a rule is not the manual's, a comment names its row of docs/DIFFERENCES.md.
 use Prim.Native.Nat.{ℕ, _-_, _/_, _%_, _^_}
-use mathlib.Core.Bool.{Bool, true, false, cond, _&&_}
+use mathlib.Core.Bool.{Bool, cond, _&&_}
 use mathlib.Core.List.{List, [], _∷_}
 use lib.Bits.{bitAnd}
 use lib.Dec.{eqb, leb}
