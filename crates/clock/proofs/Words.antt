@@ -7,11 +7,11 @@ use Prim.Native.Nat.{ℕ, zero, suc, _-_, _^_, _<_}
 use native.Mathlib.Decide.{decLt}
 use native.Mathlib.Omega.{arith}
 use lib.IntN.{ℤ, pos, negsuc}
-use lib.ListN.{length, getD}
+use lib.ListN.{getD}
 use lib.Seq.{ext-getD}
 use Rattle.clock.specs.Registers.{Clock, fresh, Change, becomes, ignored}
 use Rattle.clock.specs.Layout.{joined, signed, clockOf, Writes}
-use Rattle.clock.specs.Runs.{Access, read, write, Result, resultOf, next, after, results, Promised, Called, none, then}
+use Rattle.clock.specs.Runs.{Words, Access, read, write, Result, resultOf, next, after, results, Promised, Called, none, then}
 use Rattle.clock.proofs.Time.{signed-low, signed-high}
 
 -- ---- Calls answer as the definition does
@@ -62,11 +62,6 @@ pattern-signed bits b = go (decLt bits (2 ^ 63))
     go : Dec (bits < 2 ^ 63) → patternOf (signed bits) ≡ bits
     go (yes l) = rw (signed-low bits l)
     go (no l) = rw (signed-high bits (omega arith) b) (omega arith)
-
--- Six words of 32 bits.
-pub record Words (l : List ℕ) : Type 0 where
-  pub six : length l ≡ 6
-  pub small : (i : ℕ) → getD l i 0 < 2 ^ 32
 
 same-bits : (x y : ℕ) → x < 2 ^ 64 → y < 2 ^ 64 → signed x ≡ signed y → x ≡ y
 same-bits x y a b e = sym (pattern-signed x a) ∙ ap patternOf e ∙ pattern-signed y b
