@@ -1,6 +1,8 @@
 // The current device, and the line that is handed to it.
+use crate::clock_lines;
 use crate::cut::Kind;
 use crate::reset_lines;
+use clock::serialpost_clock_init;
 use words::Block;
 use words::pattern::fits;
 use words::put::put;
@@ -22,6 +24,7 @@ pub type Ring = [u8; 64];
 pub enum Device {
     Nothing,
     Reset,
+    Clock,
 }
 
 // The device after a line, and how much of `out` is used.
@@ -64,6 +67,14 @@ pub fn answer(
             put: put(out, at, b"i8042\n"),
         };
     }
+    if fits(line, b"clock") {
+        serialpost_clock_init(clock);
+        *time = 0;
+        return Said {
+            device: Device::Clock,
+            put: put(out, at, b"clock\n"),
+        };
+    }
     match device {
         Device::Nothing => Said {
             device,
@@ -72,6 +83,10 @@ pub fn answer(
         Device::Reset => Said {
             device,
             put: reset_lines::answer(line, out, at),
+        },
+        Device::Clock => Said {
+            device,
+            put: clock_lines::answer(line, clock, time, out, at),
         },
     }
 }

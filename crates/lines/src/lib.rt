@@ -4,6 +4,7 @@
 // the state is `full`, it calls `settle` and reads into `held` behind its first `end` bytes, and
 // says so by `came`, or, at the end of the input, by `close`. Then it calls `answer`. Nothing here
 // reads or writes a file.
+mod clock_lines;
 mod cut;
 pub mod devices;
 mod reset_lines;

@@ -1,2 +1,4 @@
 pub mod Putting
+mod Decimals
+mod Digits
 mod Patterns

@@ -1,14 +1,14 @@
 -- Laws of `fitsOf`, for a search that goes along a line and a pattern.
 -- Assumes nothing.
-use Prim.Native.Nat.{ℕ, suc, _+_, _≤_, _<_}
+use Prim.Native.Nat.{ℕ, suc, _+_, _-_, _≤_, _<_}
 use mathlib.Core.Path.{_≡_, refl, sym, ap, _∙_}
 use mathlib.Core.Bool.{Bool, true, false, _&&_}
 use mathlib.Core.List.{List, [], _∷_}
 use native.Mathlib.Numerals.{add-one}
 use native.Mathlib.Omega.{arith}
-use lib.ListN.{length, getD, drop, drop-of-length-le}
+use lib.ListN.{length, getD, take, drop, length-take, drop-of-length-le}
 use lib.Seq.{drop-cons}
-use Rattle.words.specs.Pattern.{fitsOf, standsFor}
+use Rattle.words.specs.Pattern.{fitsOf, beginsLike, standsFor}
 
 -- a line of another length does not fit
 pub other-length : (pattern line : List ℕ) → (length line ≡ length pattern → ⊥) → fitsOf pattern line ≡ false
@@ -40,3 +40,14 @@ module _ (pattern line : List ℕ) (i : ℕ) where
   pub ends : length pattern ≤ i → length line ≤ i → fitsOf (drop i pattern) (drop i line) ≡ true
   unfolding fitsOf
   ends p l = rw (drop-of-length-le pattern p, drop-of-length-le line l)
+
+-- ---- The beginning of a line
+
+pub shorter : (pattern line : List ℕ) → length line < length pattern → false ≡ beginsLike pattern line
+unfolding beginsLike
+shorter pattern line h =
+    sym (other-length pattern (take (length pattern) line) (λ e. let l = length-take (length pattern) line in omega arith))
+
+pub begins-at : (pattern line : List ℕ) {r : Bool} → r ≡ fitsOf pattern (take (length pattern - 0) (drop 0 line)) → r ≡ beginsLike pattern line
+unfolding beginsLike
+begins-at pattern line e = let z : length pattern - 0 ≡ length pattern = omega arith in rw z at e

@@ -38,3 +38,7 @@ both {out} {at} {a} {out′} {m} {b} {out″} {n} p q =
       next = simp length-append (omega (arith, p .next, q .next));
       bytes = q .bytes ∙ ap (λ (l : List ℕ). l ++ b) (p .bytes) ∙ append-assoc (take at out) a b;
     }
+
+-- what stands in the place of a word is put in its stead
+pub instead : {out : List ℕ} {at : ℕ} {a b out′ : List ℕ} {r : ℕ} → a ≡ b → Puts out at a out′ r → Puts out at b out′ r
+instead e p = rw (← e) p

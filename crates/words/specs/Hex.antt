@@ -1,7 +1,7 @@
 -- Hexadecimal digits, lower case.
 use Prim.Native.Nat.{ℕ, _+_, _-_, _*_, _/_, _%_}
 use mathlib.Core.Bool.{cond}
-use mathlib.Core.List.{List, [], _∷_}
+use mathlib.Core.List.{List, [], _∷_, _++_}
 use lib.ListN.{getD}
 use lib.Dec.{ltb, leb}
 
@@ -24,3 +24,10 @@ digitOf n = cond (ltb n 10) (48 + n) (87 + n)
 -- The two digits of a byte.
 unfoldable pub digitsOf : ℕ → List ℕ
 digitsOf b = digitOf (b / 16) ∷ digitOf (b % 16) ∷ []
+
+-- The four digits of half a word, and the eight of a word.
+unfoldable pub halfDigits : ℕ → List ℕ
+halfDigits n = digitsOf (n / 0x100) ++ digitsOf (n % 0x100)
+
+unfoldable pub wordDigits : ℕ → List ℕ
+wordDigits n = halfDigits (n / 0x1_0000) ++ halfDigits (n % 0x1_0000)

@@ -1,3 +1,4 @@
+pub mod Decimal
 pub mod Hex
 pub mod Pattern
 pub mod Put

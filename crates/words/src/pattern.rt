@@ -2,7 +2,7 @@
 use crate::hex::value;
 ghost use mathlib.Core.Path.{_≡_};
 ghost use lib.ListN.{length};
-ghost use Rattle.words.specs.Pattern.{fitsOf, standsFor};
+ghost use Rattle.words.specs.Pattern.{fitsOf, beginsLike, standsFor};
 
 // Whether `line` looks like `pattern`, as `w OO VV`, in which a capital letter stands for a
 // hexadecimal digit and every other character for itself.
@@ -21,6 +21,17 @@ pub fn fits(line: &[u8], pattern: &[u8]) -> bool
         i += 1;
     }
     true
+}
+
+// Whether `line` begins like `pattern`.
+pub fn begins(line: &[u8], pattern: &[u8]) -> bool
+    ensures { λ r. ⌜ r ≡ beginsLike (now (pattern .entry)) (now (line .entry)) ⌝ }
+{
+    let n = pattern.len();
+    if line.len() < n {
+        return false;
+    }
+    fits(&line[0..n], pattern)
 }
 
 fn stands_for(p: u8, c: u8) -> bool

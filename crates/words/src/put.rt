@@ -7,7 +7,7 @@ ghost use mathlib.Core.Path.{_≡_};
 ghost use lib.ListN.{length};
 ghost use Rattle.words.specs.Put.{Puts};
 ghost use Rattle.words.specs.Text.{text};
-ghost use Rattle.words.specs.Hex.{digitsOf};
+ghost use Rattle.words.specs.Hex.{digitsOf, halfDigits, wordDigits};
 
 // Puts the bytes of `word`.
 pub fn put(out: &mut Block, at: usize, word: &[u8]) -> usize
@@ -44,4 +44,25 @@ pub fn put_byte(out: &mut Block, at: usize, byte: u8) -> usize
     ensures { λ r. ⌜ r ≡ at + 2 ⌝ }
 {
     put(out, at, &[digit(byte / 16), digit(byte % 16)])
+}
+
+// Puts the eight digits of a word.
+pub fn put_word(out: &mut Block, at: usize, word: u32) -> usize
+    requires { ⌜ at + 8 ≤ 65536 ⌝ }
+    ensures { λ r. ⌜ Puts (now (out .entry)) at (wordDigits word) (now (out .exit)) r ⌝ }
+    ensures { λ r. ⌜ r ≡ at + 8 ⌝ }
+{
+    let a = put_half(out, at, word / 0x1_0000);
+    put_half(out, a, word % 0x1_0000)
+}
+
+// Puts the four digits of half a word.
+fn put_half(out: &mut Block, at: usize, half: u32) -> usize
+    requires { ⌜ at + 4 ≤ 65536 ⌝ }
+    requires { ⌜ half < 0x1_0000 ⌝ }
+    ensures { λ r. ⌜ Puts (now (out .entry)) at (halfDigits half) (now (out .exit)) r ⌝ }
+    ensures { λ r. ⌜ r ≡ at + 4 ⌝ }
+{
+    let a = put_byte(out, at, (half / 0x100) as u8);
+    put_byte(out, a, (half % 0x100) as u8)
 }

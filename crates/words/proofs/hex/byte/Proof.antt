@@ -1,5 +1,7 @@
-use Rattle.words.specs.Hex.{byteOf}
+-- Each answer is a law of `Digits`.
+-- Assumes nothing.
 use borrow.Author.Needs.{needs}
+use Rattle.words.proofs.Digits.{two}
 use Rattle.words.proofs.hex.byte.Statement.{statement}
 use Rattle.words.proofs.hex.byte.Tie as tie
 
@@ -16,8 +18,7 @@ add-result : tie.Need-add-result
 add-result c = search needs
 
 returns : tie.Need-returns
-unfolding byteOf
-returns c = rw (c .before .value .ensures, c .value2 .ensures)
+returns c = two _ _ (c .before .value .ensures) (c .value2 .ensures)
 
 pub byte-spec : {M : Type 1} → statement M
 byte-spec = tie.close (tie.spec value-requires mul-result value-requires-2 add-result returns)

@@ -1,5 +1,7 @@
-use Rattle.words.specs.Hex.{byteAt}
+-- Each answer is a law of `Digits`.
+-- Assumes nothing.
 use borrow.Author.Needs.{needs}
+use Rattle.words.proofs.Digits.{two-at}
 use Rattle.words.proofs.hex.byte_at.Statement.{statement}
 use Rattle.words.proofs.hex.byte_at.Tie as tie
 
@@ -16,8 +18,7 @@ byte-requires : tie.Need-byte-requires
 byte-requires c κs = search needs
 
 returns : tie.Need-returns
-unfolding byteAt
-returns c = rw (c .byte .ensures, c .before .before .char-at .ensures, c .before .char-at2 .ensures)
+returns c = two-at _ _ (c .before .before .char-at .ensures) (c .before .char-at2 .ensures) (c .byte .ensures)
 
 pub byte-at-spec : {M : Type 1} → statement M
 byte-at-spec =

@@ -1,6 +1,7 @@
-use mathlib.Core.Path.{sym}
-use lib.ListN.{List·getD-eq-default}
+-- Each answer is a law of `Digits`.
+-- Assumes nothing.
 use borrow.Author.Needs.{needs}
+use Rattle.words.proofs.Digits.{no-character}
 use Rattle.words.proofs.hex.char_at.Statement.{statement}
 use Rattle.words.proofs.hex.char_at.Tie as tie
 
@@ -11,7 +12,7 @@ returns : tie.Need-returns
 returns c = search needs
 
 returns-2 : tie.Need-returns-2
-returns-2 c = sym (List·getD-eq-default (c .before .args .line .now) 0 (c .if1 .left))
+returns-2 c = no-character (c .before .args .line .now) _ (c .if1 .left)
 
 pub char-at-spec : {M : Type 1} → statement M
 char-at-spec = tie.close (tie.spec shared-slice-read-result returns returns-2)

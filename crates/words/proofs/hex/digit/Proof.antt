@@ -1,6 +1,7 @@
+-- Each answer is a law of `Digits`.
+-- Assumes nothing.
 use borrow.Author.Needs.{needs}
-use borrow.Author.Tests.{lt-ltb, le-ltb}
-use Rattle.words.specs.Hex.{digitOf}
+use Rattle.words.proofs.Digits.{small, large}
 use Rattle.words.proofs.hex.digit.Statement.{statement}
 use Rattle.words.proofs.hex.digit.Tie as tie
 
@@ -8,8 +9,7 @@ add-result : tie.Need-add-result
 add-result c = search needs
 
 returns : tie.Need-returns
-unfolding digitOf
-returns c = rw (lt-ltb _ _ (c .if1 .taken))
+returns c = small _ (c .if1 .taken)
 
 sub-result : tie.Need-sub-result
 sub-result c = search needs
@@ -18,8 +18,7 @@ add-result-2 : tie.Need-add-result-2
 add-result-2 c = search needs
 
 returns-2 : tie.Need-returns-2
-unfolding digitOf
-returns-2 c = rw (le-ltb _ _ (c .if1 .left))
+returns-2 c = large _ (c .if1 .left)
 
 pub digit-spec : {M : Type 1} → statement M
 digit-spec = tie.close (tie.spec add-result returns sub-result add-result-2 returns-2)

@@ -1,5 +1,7 @@
-use Rattle.words.specs.Hex.{digitsOf}
+-- Each answer is a law of `Digits`.
+-- Assumes nothing.
 use borrow.Author.Needs.{needs}
+use Rattle.words.proofs.Digits.{digits-put}
 use Rattle.words.proofs.put.put_byte.Statement.{statement}
 use Rattle.words.proofs.put.put_byte.Tie as tie
 
@@ -16,8 +18,7 @@ put-requires : tie.Need-put-requires
 put-requires c κs = search needs
 
 returns : tie.Need-returns
-unfolding digitsOf
-returns c = (rw (← c .before .before .before .digit .ensures, ← c .before .before .digit2 .ensures) (c .put .ensures), search needs)
+returns c = (digits-put _ (c .before .before .before .digit .ensures) (c .before .before .digit2 .ensures) (c .put .ensures), search needs)
 
 pub put-byte-spec : {M : Type 1} → statement M
 put-byte-spec =

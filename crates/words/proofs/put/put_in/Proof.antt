@@ -1,9 +1,10 @@
-use Prim.Native.Nat.{ℕ, _+_, _-_, _≤_, _<_}
+-- Its answer is a law of `Putting`, once the loop is done.
+-- Assumes nothing.
+use Prim.Native.Nat.{_+_, _-_, _≤_, _<_}
 use mathlib.Core.Path.{_≡_}
 use borrow.Author.Needs.{needs}
 use native.Mathlib.Omega.{arith}
-use lib.ListN.{length, take, length-set}
-use lib.Seq.{take-length}
+use lib.ListN.{length, take}
 use Rattle.words.specs.Put.{Puts}
 use Rattle.words.proofs.Putting.{nothing, one-more, whole}
 use Rattle.words.proofs.put.put_in.Statement.{statement}

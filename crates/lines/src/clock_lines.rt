@@ -1,0 +1,126 @@
+// The lines of the clock.
+use crate::devices::Clock;
+use clock::serialpost_clock_read;
+use clock::serialpost_clock_write;
+use words::Block;
+use words::decimal;
+use words::decimal::Number;
+use words::hex::byte_at;
+use words::pattern::begins;
+use words::pattern::fits;
+use words::put::put;
+use words::put::put_byte;
+use words::put::put_word;
+use words::put::unknown;
+ghost use Prim.Native.Nat.{_+_, _≤_};
+
+pub fn answer(line: &[u8], clock: &mut Clock, time: &mut u64, out: &mut Block, at: usize) -> usize
+    requires { ⌜ at + 4096 ≤ 65536 ⌝ }
+    ensures { λ r. ⌜ r ≤ at + 4096 ⌝ }
+{
+    if fits(line, b"r OOOO BBBBBBBB") {
+        return read(clock, offset_in(line), *time, bytes_in(line), out, at);
+    }
+    if fits(line, b"w OOOO BBBBBBBB") {
+        return write(clock, offset_in(line), *time, bytes_in(line), out, at);
+    }
+    if begins(line, b"now ") {
+        let Number::Is(now) = decimal::parse_from(line, 4) else {
+            return unknown(out, at);
+        };
+        *time = now;
+        return put(out, at, b"now\n");
+    }
+    if fits(line, b"state") {
+        return state(clock, out, at);
+    }
+    unknown(out, at)
+}
+
+// OOOO, of `r OOOO BBBBBBBB` and `w OOOO BBBBBBBB`.
+fn offset_in(line: &[u8]) -> u16 {
+    (byte_at(line, 2) as u16) * 256 + byte_at(line, 4) as u16
+}
+
+// BBBBBBBB.
+fn bytes_in(line: &[u8]) -> [u8; 4] {
+    [
+        byte_at(line, 7),
+        byte_at(line, 9),
+        byte_at(line, 11),
+        byte_at(line, 13),
+    ]
+}
+
+fn read(
+    clock: &Clock,
+    offset: u16,
+    time: u64,
+    mut bytes: [u8; 4],
+    out: &mut Block,
+    at: usize,
+) -> usize
+    requires { ⌜ at + 4096 ≤ 65536 ⌝ }
+    ensures { λ r. ⌜ r ≤ at + 4096 ⌝ }
+{
+    let is_valid = serialpost_clock_read(clock, offset, time, &mut bytes);
+    let a = put(out, at, b"r ");
+    let b = put_bytes(out, a, bytes);
+    if is_valid {
+        return put(out, b, b" ok\n");
+    }
+    put(out, b, b" invalid\n")
+}
+
+// Puts the digits of four bytes in their order.
+fn put_bytes(out: &mut Block, at: usize, bytes: [u8; 4]) -> usize
+    requires { ⌜ at + 8 ≤ 65536 ⌝ }
+    ensures { λ r. ⌜ r ≤ at + 8 ⌝ }
+{
+    let a = put_byte(out, at, bytes[0]);
+    let b = put_byte(out, a, bytes[1]);
+    let c = put_byte(out, b, bytes[2]);
+    put_byte(out, c, bytes[3])
+}
+
+fn write(
+    clock: &mut Clock,
+    offset: u16,
+    time: u64,
+    bytes: [u8; 4],
+    out: &mut Block,
+    at: usize,
+) -> usize
+    requires { ⌜ at + 4096 ≤ 65536 ⌝ }
+    ensures { λ r. ⌜ r ≤ at + 4096 ⌝ }
+{
+    if serialpost_clock_write(clock, offset, time, &bytes) {
+        return put(out, at, b"w ok\n");
+    }
+    put(out, at, b"w invalid\n")
+}
+
+// The load register, how far the clock is ahead of the host's time, the match register, the mask and
+// the raw status.
+fn state(clock: &Clock, out: &mut Block, at: usize) -> usize
+    requires { ⌜ at + 4096 ≤ 65536 ⌝ }
+    ensures { λ r. ⌜ r ≤ at + 4096 ⌝ }
+{
+    let a = put(out, at, b"state");
+    let b = put_next(out, a, clock[0]);
+    let c = put_next(out, b, clock[5]);
+    let d = put_word(out, c, clock[4]);
+    let e = put_next(out, d, clock[1]);
+    let f = put_next(out, e, clock[2]);
+    let g = put_next(out, f, clock[3]);
+    put(out, g, b"\n")
+}
+
+// Puts a space and the digits of a word.
+fn put_next(out: &mut Block, at: usize, word: u32) -> usize
+    requires { ⌜ at + 9 ≤ 65536 ⌝ }
+    ensures { λ r. ⌜ r ≤ at + 9 ⌝ }
+{
+    let a = put(out, at, b" ");
+    put_word(out, a, word)
+}

@@ -1,0 +1,36 @@
+-- The digits are those of `io::decimal`.
+-- Assumes nothing.
+use Rattle.words.proofs.Putting.{instead}
+use borrow.Author.Needs.{needs}
+use Rattle.words.proofs.decimal.put_decimal.Statement.{statement}
+use Rattle.words.proofs.decimal.put_decimal.Tie as tie
+
+decimal-requires : tie.Need-decimal-requires
+decimal-requires c κs = search needs
+
+twenty-requires : tie.Need-twenty-requires
+twenty-requires c κs = search needs
+
+array-share-prefix-digits : tie.Need-array-share-prefix-digits
+array-share-prefix-digits c = search needs
+
+slice-aggregate-put : tie.Need-slice-aggregate-put
+slice-aggregate-put c = search needs
+
+put-requires : tie.Need-put-requires
+put-requires c κs = search needs
+
+returns : tie.Need-returns
+returns c =
+    (record { count = c .before .before .before .before .before .decimal .result; fewest = c .before .before .before .before .before .decimal .ensures .1 .0; puts = instead (c .before .before .before .before .before .decimal .ensures .1 .1) (c .put .ensures) }, search needs)
+
+pub put-decimal-spec : {M : Type 1} → statement M
+put-decimal-spec =
+    tie.close
+    (tie.spec
+    decimal-requires
+    twenty-requires
+    array-share-prefix-digits
+    slice-aggregate-put
+    put-requires
+    returns)
