@@ -1,0 +1,7 @@
+-- In the order to read them: the rooms of the chip, the port made of them, how it lies in memory.
+pub mod Interrupts
+pub mod LineStatus
+pub mod Modem
+pub mod Port
+pub mod Ring
+pub mod Layout

@@ -1,0 +1,210 @@
+-- The 16550 serial port: its registers, the bytes that wait in its receiver, and what each access does.
+use Prim.Native.Nat.{ℕ, _-_, min}
+use mathlib.Core.List.{List, [], _∷_, _++_, tail}
+use mathlib.Core.Bool.{Bool, true, false, cond}
+use lib.ListN.{length, take}
+use lib.Dec.{ltb, eqb}
+use Rattle.common.specs.Bits.{on}
+use Rattle.common.specs.Lists.{firstOr0}
+use Rattle.serial.specs.Interrupts.{receivedData, transmitterEmpty, ierStored, nonePending, unmark, announce, iirRead, iirAfterRead}
+use Rattle.serial.specs.LineStatus.{lsrReady, lsrAfterRead}
+use Rattle.serial.specs.Modem.{isLoop, msrRead}
+
+-- ---- Registers
+
+-- The data sheet's names; RBR is read and THR written at one offset, and so are IIR and FCR.
+pub data Register : Type 0 where
+  RBR-THR IER IIR-FCR LCR MCR LSR MSR SCR DLL DLM beyond : Register
+
+-- The register at an offset. While LCR 0x80 (DLAB) is set, offsets 0 and 1 are the divisor's low and high byte.
+unfoldable pub addressed : Bool → ℕ → Register
+addressed dlab offset =
+    cond (eqb offset 0) (cond dlab DLL RBR-THR)
+    (cond (eqb offset 1) (cond dlab DLM IER)
+    (cond (eqb offset 2) IIR-FCR
+    (cond (eqb offset 3) LCR
+    (cond (eqb offset 4) MCR
+    (cond (eqb offset 5) LSR
+    (cond (eqb offset 6) MSR
+    (cond (eqb offset 7) SCR
+    beyond)))))))
+
+-- ---- State
+
+-- What the guest wrote last, in the registers that keep it.
+pub record Settings : Type 0 where
+  pub ier : ℕ
+  pub lcr : ℕ
+  pub mcr : ℕ
+  pub scr : ℕ
+  pub dll : ℕ
+  pub dlm : ℕ
+
+-- waiting: the receiver's bytes, the first to be read first; size: how many may wait. The manual's FIFO has 16: DIFFERENCES, "serial-line-overrun".
+pub record Port : Type 0 where
+  pub settings : Settings
+  pub iir : ℕ
+  pub lsr : ℕ
+  pub msr : ℕ
+  pub waiting : List ℕ
+  pub size : ℕ
+
+abbrev pub isOpen : Port → Bool
+isOpen p = on (p .settings .lcr) 0x80
+
+abbrev pub inLoop : Port → Bool
+inLoop p = isLoop (p .settings .mcr)
+
+-- A fresh port. A master reset clears LCR and MCR and leaves the divisor: DIFFERENCES, "serial-reset-values".
+abbrev pub fresh : ℕ → Port
+fresh size = record {
+  settings = record { ier = 0; lcr = 0x03; mcr = 0x08; scr = 0; dll = 0x0c; dlm = 0 };
+  iir = nonePending;
+  lsr = 0x60;
+  msr = 0xb0;
+  waiting = [];
+  size = size;
+}
+
+-- The port with other settings; with other marks, line status and waiting bytes.
+abbrev pub withSettings : Port → Settings → Port
+withSettings p s = record { settings = s; iir = p .iir; lsr = p .lsr; msr = p .msr; waiting = p .waiting; size = p .size }
+
+abbrev pub withReceiver : Port → ℕ → ℕ → List ℕ → Port
+withReceiver p iir lsr waiting = record { settings = p .settings; iir = iir; lsr = lsr; msr = p .msr; waiting = waiting; size = p .size }
+
+-- ---- What an access does: the port after it, the reply to a read, the byte sent if any, how often the interrupt is raised
+
+pub record Out : Type 0 where
+  pub port : Port
+  pub reply : ℕ
+  pub sent : List ℕ
+  pub raises : ℕ
+
+abbrev pub replies : Port → ℕ → Out
+replies p value = record { port = p; reply = value; sent = []; raises = 0 }
+
+abbrev pub becomes : Port → Out
+becomes p = replies p 0
+
+-- ---- Reads
+
+-- RBR: the first byte that waits leaves; 0 where none waits. Received data is unmarked even if more wait: DIFFERENCES, "serial-forgotten-data".
+abbrev pub readRbr : Port → Out
+readRbr p =
+    let left = tail (p .waiting) in
+    replies (withReceiver p (unmark (p .iir) receivedData) (lsrAfterRead left (p .lsr)) left) (firstOr0 (p .waiting))
+
+abbrev pub readIir : Port → Out
+readIir p = replies (withReceiver p iirAfterRead (p .lsr) (p .waiting)) (iirRead (p .iir))
+
+unfoldable pub readRegister : Port → Register → Out
+readRegister p RBR-THR = readRbr p
+readRegister p IER = replies p (p .settings .ier)
+readRegister p IIR-FCR = readIir p
+readRegister p LCR = replies p (p .settings .lcr)
+readRegister p MCR = replies p (p .settings .mcr)
+readRegister p LSR = replies p (p .lsr)
+readRegister p MSR = replies p (msrRead (p .settings .mcr) (p .msr))
+readRegister p SCR = replies p (p .settings .scr)
+readRegister p DLL = replies p (p .settings .dll)
+readRegister p DLM = replies p (p .settings .dlm)
+readRegister p beyond = replies p 0
+
+abbrev pub readOf : Port → ℕ → Out
+readOf p offset = readRegister p (addressed (isOpen p) offset)
+
+-- ---- Bytes come to the receiver: they wait behind the others, data is ready, received data is announced
+
+unfoldable pub receives : Port → List ℕ → Out
+receives p bytes =
+    let a = announce (p .settings .ier) (p .iir) receivedData in
+    record { port = withReceiver p (a .iir) (lsrReady (p .lsr)) (p .waiting ++ bytes); reply = 0; sent = []; raises = a .raises }
+
+abbrev pub hasRoom : Port → Bool
+hasRoom p = ltb (length (p .waiting)) (p .size)
+
+-- ---- Writes
+
+-- THR in the loop: the byte comes to the receiver. Where that is full the byte is lost with no word: DIFFERENCES, "serial-loop-overrun".
+-- An empty transmitter is not announced: DIFFERENCES, "serial-loop-transmitter".
+abbrev pub writeLoop : Port → ℕ → Out
+writeLoop p value = cond (hasRoom p) (receives p (value ∷ [])) (becomes p)
+
+-- THR on the line: the byte is sent and has left at once; the empty transmitter is announced, whether or not the host delivers the byte.
+unfoldable pub writeLine : Port → ℕ → Out
+writeLine p value =
+    let a = announce (p .settings .ier) (p .iir) transmitterEmpty in
+    record { port = withReceiver p (a .iir) (p .lsr) (p .waiting); reply = 0; sent = value ∷ []; raises = a .raises }
+
+abbrev pub writeThr : Port → ℕ → Out
+writeThr p value = cond (inLoop p) (writeLoop p value) (writeLine p value)
+
+-- The settings with one register written.
+abbrev pub putIer : Settings → ℕ → Settings
+putIer s v = record { ier = v; lcr = s .lcr; mcr = s .mcr; scr = s .scr; dll = s .dll; dlm = s .dlm }
+
+abbrev pub putLcr : Settings → ℕ → Settings
+putLcr s v = record { ier = s .ier; lcr = v; mcr = s .mcr; scr = s .scr; dll = s .dll; dlm = s .dlm }
+
+abbrev pub putMcr : Settings → ℕ → Settings
+putMcr s v = record { ier = s .ier; lcr = s .lcr; mcr = v; scr = s .scr; dll = s .dll; dlm = s .dlm }
+
+abbrev pub putScr : Settings → ℕ → Settings
+putScr s v = record { ier = s .ier; lcr = s .lcr; mcr = s .mcr; scr = v; dll = s .dll; dlm = s .dlm }
+
+abbrev pub putDll : Settings → ℕ → Settings
+putDll s v = record { ier = s .ier; lcr = s .lcr; mcr = s .mcr; scr = s .scr; dll = v; dlm = s .dlm }
+
+abbrev pub putDlm : Settings → ℕ → Settings
+putDlm s v = record { ier = s .ier; lcr = s .lcr; mcr = s .mcr; scr = s .scr; dll = s .dll; dlm = v }
+
+abbrev pub stores : Port → Settings → Out
+stores p s = becomes (withSettings p s)
+
+-- IER: the value is stored and nothing is announced: DIFFERENCES, "serial-quiet-enable" and "serial-enable-transmitter". FCR: nothing happens:
+-- DIFFERENCES, "serial-fifo-off", "serial-fifo-empty" and "serial-trigger-level". LSR, MSR and the offsets beyond are not written.
+unfoldable pub writeRegister : Port → Register → ℕ → Out
+writeRegister p RBR-THR v = writeThr p v
+writeRegister p IER v = stores p (putIer (p .settings) (ierStored v))
+writeRegister p IIR-FCR v = becomes p
+writeRegister p LCR v = stores p (putLcr (p .settings) v)
+writeRegister p MCR v = stores p (putMcr (p .settings) v)
+writeRegister p LSR v = becomes p
+writeRegister p MSR v = becomes p
+writeRegister p SCR v = stores p (putScr (p .settings) v)
+writeRegister p DLL v = stores p (putDll (p .settings) v)
+writeRegister p DLM v = stores p (putDlm (p .settings) v)
+writeRegister p beyond v = becomes p
+
+abbrev pub writeOf : Port → ℕ → ℕ → Out
+writeOf p offset value = writeRegister p (addressed (isOpen p) offset) value
+
+-- ---- Input from the host's side of the line: no bytes, some of them, or the answer "full"
+
+pub record Input : Type 0 where
+  pub port : Port
+  pub taken : ℕ
+  pub full : Bool
+  pub raises : ℕ
+
+abbrev pub roomOf : Port → ℕ
+roomOf p = p .size - length (p .waiting)
+
+abbrev pub takesNone : Port → Bool → Input
+takesNone p full = record { port = p; taken = 0; full = full; raises = 0 }
+
+-- As many bytes are taken as there is room for. What is not taken is the host's to offer again: DIFFERENCES, "serial-line-overrun".
+abbrev pub takesSome : Port → List ℕ → Input
+takesSome p bytes =
+    let taken = min (roomOf p) (length bytes) in
+    let o = receives p (take taken bytes) in
+    record { port = o .port; taken = taken; full = false; raises = o .raises }
+
+-- In the loop the line is cut off and nothing is taken.
+unfoldable pub inputOf : Port → List ℕ → Input
+inputOf p bytes =
+    cond (inLoop p) (takesNone p false)
+    (cond (eqb (length bytes) 0) (takesNone p false)
+    (cond (hasRoom p) (takesSome p bytes)
+    (takesNone p true)))
