@@ -1,17 +1,23 @@
 -- How a port lies in the memory that its host lends: any bytes are some port, and none holds more than its size.
-use Prim.Native.Nat.{ℕ, _+_, _*_, min}
-use mathlib.Core.Path.{_≡_}
-use mathlib.Core.List.{List, [], _∷_}
+use Prim.Native.Nat.{ℕ, _+_, _-_, min}
+use mathlib.Core.List.{List}
 use lib.ListN.{getD}
-use Rattle.serial.specs.Port.{Port, Out}
+use Rattle.serial.specs.Port.{Port}
 use Rattle.serial.specs.Ring.{queue}
 
 -- How many bytes may wait: the size of the storage.
 abbrev pub capacity : ℕ
 capacity = 64
 
--- A register lies at its offset; the divisor's low byte DLL lies at 0 and its high byte DLM at 8. At 0 and 1 of the positions lie the place
--- of the first waiting byte, which goes round the storage, and the number of those that wait; a number above the capacity counts as the capacity.
+-- At 0 and 1 of the positions lie the place of the first waiting byte, which goes round the storage, and the number of those that wait;
+-- a number above the capacity counts as the capacity.
+abbrev pub startOf : List ℕ → ℕ
+startOf pos = getD pos 0 0
+
+abbrev pub countOf : List ℕ → ℕ
+countOf pos = min (getD pos 1 0) capacity
+
+-- A register lies at its offset; the divisor's low byte DLL lies at 0 and its high byte DLM at 8.
 unfoldable pub portOf : List ℕ → List ℕ → List ℕ → Port
 portOf regs pos ring = record {
   settings = record {
@@ -25,6 +31,10 @@ portOf regs pos ring = record {
   iir = getD regs 2 0;
   lsr = getD regs 5 0;
   msr = getD regs 6 0;
-  waiting = queue capacity ring (getD pos 0 0) (min (getD pos 1 0) capacity);
+  waiting = queue capacity ring (startOf pos) (countOf pos);
   size = capacity;
 }
+
+-- The bytes of the storage that do not wait.
+abbrev pub spareOf : List ℕ → List ℕ → List ℕ
+spareOf pos ring = queue capacity ring (startOf pos + countOf pos) (capacity - countOf pos)

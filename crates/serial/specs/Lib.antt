@@ -1,7 +1,8 @@
--- In the order to read them: the rooms of the chip, the port made of them, how it lies in memory.
+-- In the order to read them: the rooms of the chip, the port made of them, how it lies in memory, what a call promises.
 pub mod Interrupts
 pub mod LineStatus
 pub mod Modem
 pub mod Port
 pub mod Ring
 pub mod Layout
+pub mod Calls

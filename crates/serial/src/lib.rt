@@ -1,1 +1,189 @@
-// (code comes here)
+// A 16550 serial port in memory that its host lends, in place: nothing is copied, and any bytes are
+// some port. The host hands each access of the guest to these functions and acts on the answer.
+mod interrupts;
+mod line_status;
+mod memory;
+mod modem;
+mod receiver;
+mod ring;
+mod transmitter;
+
+use memory::DLL;
+use memory::DLM;
+use memory::IER;
+use memory::IIR;
+use memory::LCR;
+use memory::LSR;
+use memory::MCR;
+use memory::MSR;
+use memory::SCR;
+ghost use mathlib.Core.Path.{_≡_};
+ghost use Rattle.common.specs.Bits.{on};
+ghost use Rattle.serial.specs.Port.{readOf, writeOf, inputOf};
+ghost use Rattle.serial.specs.Layout.{portOf};
+ghost use Rattle.serial.specs.Calls.{Reads, Writes, Takes, Begins, HasRoom};
+
+// A fresh port; its storage may hold anything.
+#[no_mangle]
+pub extern "C" fn serialpost_serial_init(regs: &mut [u8; 9], pos: &mut [u32; 2])
+    ensures { λ r. ⌜ Begins (now (regs .exit)) (now (pos .exit)) ⌝ }
+{
+    memory::nine(regs);
+    memory::two(pos);
+    regs[DLL] = 0x0c;
+    regs[IER] = 0x00;
+    regs[IIR] = 0x01;
+    regs[LCR] = 0x03;
+    regs[MCR] = 0x08;
+    regs[LSR] = 0x60;
+    regs[MSR] = 0xb0;
+    regs[SCR] = 0x00;
+    regs[DLM] = 0x00;
+    pos[0] = 0;
+    pos[1] = 0;
+}
+
+// LCR 0x80: offsets 0 and 1 are the divisor's.
+fn is_open(lcr: u8) -> bool
+    ensures { λ r. ⌜ r ≡ on lcr 0x80 ⌝ }
+{
+    lcr & 0x80 != 0
+}
+
+// The guest reads at `offset`: the reply, and 512 for each interrupt to raise.
+#[no_mangle]
+pub extern "C" fn serialpost_serial_read(
+    regs: &mut [u8; 9],
+    pos: &mut [u32; 2],
+    ring: &[u8; 64],
+    offset: u8,
+) -> u32
+    ensures { λ r. ⌜ Reads (now (regs .entry)) (now (pos .entry)) (now (ring .entry)) (now (regs .exit)) (now (pos .exit)) r (readOf (portOf (now (regs .entry)) (now (pos .entry)) (now (ring .entry))) offset) ⌝ }
+{
+    if offset < 2 {
+        if is_open(regs[LCR]) {
+            if offset == 0 {
+                return memory::wide(regs[DLL]);
+            }
+            return memory::wide(regs[DLM]);
+        }
+        if offset == 0 {
+            return receiver::read_rbr(regs, pos, ring);
+        }
+        return memory::wide(regs[IER]);
+    }
+    match offset {
+        2 => {
+            memory::nine(regs);
+            let iir = regs[IIR];
+            regs[IIR] = interrupts::AFTER_READ;
+            return memory::wide(interrupts::iir_read(iir));
+        }
+        3 => {
+            return memory::wide(regs[LCR]);
+        }
+        4 => {
+            return memory::wide(regs[MCR]);
+        }
+        5 => {
+            return memory::wide(regs[LSR]);
+        }
+        6 => {
+            return memory::wide(modem::msr_read(regs[MCR], regs[MSR]));
+        }
+        7 => {
+            return memory::wide(regs[SCR]);
+        }
+        _ => {
+            return 0;
+        }
+    }
+}
+
+// The guest writes `value` at `offset`: the byte to send and 256, where there is one, and 512 for
+// each interrupt to raise.
+#[no_mangle]
+pub extern "C" fn serialpost_serial_write(
+    regs: &mut [u8; 9],
+    pos: &mut [u32; 2],
+    ring: &mut [u8; 64],
+    offset: u8,
+    value: u8,
+) -> u32
+    ensures { λ r. ⌜ Writes (now (regs .entry)) (now (pos .entry)) (now (ring .entry)) (now (regs .exit)) (now (pos .exit)) (now (ring .exit)) r (writeOf (portOf (now (regs .entry)) (now (pos .entry)) (now (ring .entry))) offset value) ⌝ }
+{
+    memory::nine(regs);
+    if offset < 2 {
+        if is_open(regs[LCR]) {
+            if offset == 0 {
+                regs[DLL] = value;
+                return 0;
+            }
+            regs[DLM] = value;
+            return 0;
+        }
+        if offset == 0 {
+            if modem::is_loop(regs[MCR]) {
+                return receiver::write_loop(regs, pos, ring, value);
+            }
+            return transmitter::write_line(regs, value);
+        }
+        regs[IER] = interrupts::ier_stored(value);
+        return 0;
+    }
+    match offset {
+        3 => {
+            regs[LCR] = value;
+            return 0;
+        }
+        4 => {
+            regs[MCR] = value;
+            return 0;
+        }
+        7 => {
+            regs[SCR] = value;
+            return 0;
+        }
+        _ => {
+            return 0;
+        }
+    }
+}
+
+// Bytes from the host's side of the line: how many were taken, 0x1_0000 for "full", and 0x2_0000
+// for each interrupt to raise.
+#[no_mangle]
+pub extern "C" fn serialpost_serial_input(
+    regs: &mut [u8; 9],
+    pos: &mut [u32; 2],
+    ring: &mut [u8; 64],
+    input: &[u8],
+) -> u32
+    ensures { λ r. ⌜ Takes (now (regs .entry)) (now (pos .entry)) (now (ring .entry)) (now (regs .exit)) (now (pos .exit)) (now (ring .exit)) r (inputOf (portOf (now (regs .entry)) (now (pos .entry)) (now (ring .entry))) (now (input .entry))) ⌝ }
+{
+    if modem::is_loop(regs[MCR]) {
+        return 0;
+    }
+    let len = input.len();
+    if len == 0 {
+        return 0;
+    }
+    let n = ring::count(pos);
+    if n == ring::CAPACITY {
+        return 0x1_0000;
+    }
+    memory::nine(regs);
+    memory::two(pos);
+    let k = ring::fitting(n, len);
+    ring::fill(ring, pos[0], n, input, k);
+    let taken = k as u32;
+    taken + 0x2_0000 * receiver::receive(regs, pos, n + taken)
+}
+
+// How many more bytes the port can take.
+#[no_mangle]
+pub extern "C" fn serialpost_serial_room(pos: &[u32; 2]) -> u32
+    ensures { λ r. ⌜ HasRoom (now (pos .entry)) r ⌝ }
+{
+    ring::CAPACITY - ring::count(pos)
+}

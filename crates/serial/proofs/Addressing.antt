@@ -1,0 +1,44 @@
+-- Which register an offset is, by the tests of the code.
+-- Assumes nothing.
+use mathlib.Core.Path.{_≡_, refl}
+use mathlib.Core.Bool.{Bool, true, false, cond}
+use Prim.Native.Nat.{ℕ, _≤_, _<_}
+use native.Mathlib.Omega.{arith}
+use lib.Dec.{eqb}
+use borrow.Author.Tests.{ne-eqb}
+use Rattle.serial.specs.Port.{Port, Register, RBR-THR, IER, IIR-FCR, LCR, MCR, LSR, MSR, SCR, DLL, DLM, beyond, addressed, becomes, writeRegister}
+
+module _ (dlab : Bool) (offset : ℕ) where
+  pub at-dll : dlab ≡ true → offset ≡ 0 → addressed dlab offset ≡ DLL
+  unfolding addressed
+  at-dll d e = rw (d, e)
+
+  pub at-data : dlab ≡ false → offset ≡ 0 → addressed dlab offset ≡ RBR-THR
+  unfolding addressed
+  at-data d e = rw (d, e)
+
+  pub at-dlm : dlab ≡ true → offset < 2 → (offset ≡ 0 → ⊥) → addressed dlab offset ≡ DLM
+  unfolding addressed
+  at-dlm d h e = let one : offset ≡ 1 = omega arith in rw (d, one)
+
+  pub at-ier : dlab ≡ false → offset < 2 → (offset ≡ 0 → ⊥) → addressed dlab offset ≡ IER
+  unfolding addressed
+  at-ier d h e = let one : offset ≡ 1 = omega arith in rw (d, one)
+
+  pub at-beyond : 2 ≤ offset → (offset ≡ 2 → ⊥) → (offset ≡ 3 → ⊥) → (offset ≡ 4 → ⊥) → (offset ≡ 5 → ⊥) → (offset ≡ 6 → ⊥) → (offset ≡ 7 → ⊥) → addressed dlab offset ≡ beyond
+  unfolding addressed
+  at-beyond h a b c d e f =
+      rw (ne-eqb offset 0 (λ z. omega arith), ne-eqb offset 1 (λ z. omega arith), ne-eqb _ _ a, ne-eqb _ _ b, ne-eqb _ _ c, ne-eqb _ _ d, ne-eqb _ _ e, ne-eqb _ _ f)
+
+  -- Offsets 2, 5, 6 and those beyond are not written.
+  nothing : (p : Port) (v : ℕ) (a b c : Bool) → writeRegister p (cond a IIR-FCR (cond b LSR (cond c MSR beyond))) v ≡ becomes p
+  unfolding writeRegister
+  nothing p v true b c = refl
+  nothing p v false true c = refl
+  nothing p v false false true = refl
+  nothing p v false false false = refl
+
+  pub unwritten : (p : Port) (v : ℕ) → 2 ≤ offset → (offset ≡ 3 → ⊥) → (offset ≡ 4 → ⊥) → (offset ≡ 7 → ⊥) → writeRegister p (addressed dlab offset) v ≡ becomes p
+  unfolding addressed
+  unwritten p v h a b c =
+      rw (ne-eqb offset 0 (λ z. omega arith), ne-eqb offset 1 (λ z. omega arith), ne-eqb _ _ a, ne-eqb _ _ b, ne-eqb _ _ c) (nothing p v (eqb offset 2) (eqb offset 5) (eqb offset 6))

@@ -1,0 +1,32 @@
+-- The three ways in which a call meets its promise: nothing is stored, registers alone are stored, or the number of waiting bytes changes.
+-- Assumes nothing.
+use mathlib.Core.Path.{_≡_, refl, sym, ap, _∙_}
+use mathlib.Core.List.{List}
+use Prim.Native.Nat.{ℕ}
+use lib.ListN.{length}
+use Rattle.serial.specs.Port.{Port}
+use Rattle.serial.specs.Layout.{capacity, startOf, countOf, portOf, spareOf}
+use Rattle.serial.specs.Calls.{Answers}
+use Rattle.serial.proofs.Registers.{same-registers}
+use Rattle.serial.proofs.RingLaws.{queue-length}
+
+pub waiting-length : (regs pos ring : List ℕ) → length (portOf regs pos ring .waiting) ≡ countOf pos
+unfolding portOf
+waiting-length regs pos ring = queue-length capacity ring (startOf pos) (countOf pos)
+
+module _ {regs pos ring : List ℕ} {r : ℕ} {port : Port} {word : ℕ} where
+  pub as-it-was : port ≡ portOf regs pos ring → r ≡ word → Answers regs pos ring regs pos ring r port word
+  as-it-was e a = record { answer = a; holds = sym e; spared = refl; still = λ _. (refl, (refl, refl)) }
+
+  pub registers-alone : {regs′ : List ℕ} → length regs ≡ 9 → length regs′ ≡ 9 → portOf regs′ pos ring ≡ port → r ≡ word
+      → Answers regs pos ring regs′ pos ring r port word
+  registers-alone {regs′} n n′ e a = record { answer = a; holds = e; spared = refl; still = λ s. (same-registers regs pos ring regs′ pos ring n n′ (e ∙ s), (refl, refl)) }
+
+  pub other-count : {regs′ pos′ ring′ : List ℕ} → portOf regs′ pos′ ring′ ≡ port → spareOf pos′ ring′ ≡ spareOf pos′ ring → (countOf pos′ ≡ countOf pos → ⊥) → r ≡ word
+      → Answers regs pos ring regs′ pos′ ring′ r port word
+  other-count {regs′} {pos′} {ring′} e k d a = record {
+    answer = a;
+    holds = e;
+    spared = k;
+    still = λ s. absurd (d (sym (waiting-length regs′ pos′ ring′) ∙ ap (λ (p : Port). length (p .waiting)) (e ∙ s) ∙ waiting-length regs pos ring));
+  }

@@ -1,0 +1,74 @@
+-- What each answer of a write is in the definition, where no byte comes to the receiver.
+-- Assumes nothing.
+use mathlib.Core.Path.{_≡_, refl, sym, ap, _∙_}
+use mathlib.Core.Bool.{Bool, true, false}
+use mathlib.Core.List.{List, [], _∷_}
+use Prim.Native.Nat.{ℕ, _+_, _*_, _≤_, _<_}
+use native.Mathlib.Omega.{arith}
+use lib.ListN.{length, set, length-set}
+use Rattle.serial.specs.Interrupts.{transmitterEmpty, ierStored}
+use Rattle.serial.specs.Port.{Port, Settings, Register, RBR-THR, LCR, MCR, SCR, isOpen, inLoop, addressed, withSettings, stores, putIer, putLcr, putMcr, putScr, putDll, putDlm, writeLine, writeLoop, writeRegister, writeOf}
+use Rattle.serial.specs.Layout.{portOf}
+use Rattle.serial.specs.Calls.{Writes, Announces}
+use Rattle.serial.proofs.Registers.{setting, marks}
+use Rattle.serial.proofs.Addressing.{at-dll, at-dlm, at-ier, unwritten}
+use Rattle.serial.proofs.Answering.{as-it-was, registers-alone}
+
+module _ (regs pos ring : List ℕ) where
+  abbrev p : Port
+  p = portOf regs pos ring
+
+  -- A byte goes out.
+  pub line-sends : length regs ≡ 9 → (v : ℕ) {regs′ : List ℕ} {raises r : ℕ} → Announces regs transmitterEmpty regs′ raises → r ≡ v + 256 + 512 * raises
+      → Writes regs pos ring regs′ pos ring r (writeLine p v)
+  unfolding portOf writeLine
+  line-sends n v {r = r} a e =
+      rw (a .marked) (registers-alone n (length-set regs _ _ ∙ n) (marks regs pos ring n _) (rw (e, a .raised)))
+
+  -- A setting is stored at place k: the first `refl` says which register it is, the second that it lies there.
+  module _ (n : length regs ≡ 9) (offset v : ℕ) where
+    stored : (k w : ℕ) (put : Settings → ℕ → Settings) {register : Register} → addressed (isOpen p) offset ≡ register → writeRegister p register v ≡ stores p (put (p .settings) w)
+        → ((a b c d e f g h i : ℕ) → let l = a ∷ b ∷ c ∷ d ∷ e ∷ f ∷ g ∷ h ∷ i ∷ [] in portOf (set l k w) pos ring ≡ withSettings (portOf l pos ring) (put (portOf l pos ring .settings) w))
+        → Writes regs pos ring (set regs k w) pos ring 0 (writeOf p offset v)
+    stored k w put a e t = rw (a, e) (registers-alone n (length-set regs _ _ ∙ n) (setting regs pos ring n k put w t) refl)
+
+    abbrev At : ℕ → ℕ → Type 0
+    At k w = Writes regs pos ring (set regs k w) pos ring 0 (writeOf p offset v)
+
+    pub stores-dll : isOpen p ≡ true → offset ≡ 0 → At 0 v
+    unfolding portOf writeRegister
+    stores-dll o e = stored 0 v putDll (at-dll _ _ o e) refl (λ a b c d e f g h i. refl)
+
+    pub stores-dlm : isOpen p ≡ true → offset < 2 → (offset ≡ 0 → ⊥) → At 8 v
+    unfolding portOf writeRegister
+    stores-dlm o h e = stored 8 v putDlm (at-dlm _ _ o h e) refl (λ a b c d e f g h i. refl)
+
+    pub stores-ier : isOpen p ≡ false → offset < 2 → (offset ≡ 0 → ⊥) → (w : ℕ) → w ≡ ierStored v → At 1 w
+    unfolding portOf writeRegister
+    stores-ier o h e w s = stored 1 w putIer (at-ier _ _ o h e) (rw s) (λ a b c d e f g h i. refl)
+
+    pub stores-lcr : offset ≡ 3 → At 3 v
+    unfolding portOf writeRegister addressed
+    stores-lcr e = stored 3 v putLcr {register = LCR} (rw e) refl (λ a b c d e f g h i. refl)
+
+    pub stores-mcr : offset ≡ 4 → At 4 v
+    unfolding portOf writeRegister addressed
+    stores-mcr e = stored 4 v putMcr {register = MCR} (rw e) refl (λ a b c d e f g h i. refl)
+
+    pub stores-scr : offset ≡ 7 → At 7 v
+    unfolding portOf writeRegister addressed
+    stores-scr e = stored 7 v putScr {register = SCR} (rw e) refl (λ a b c d e f g h i. refl)
+
+  pub stores-nothing : (offset v : ℕ) → 2 ≤ offset → (offset ≡ 3 → ⊥) → (offset ≡ 4 → ⊥) → (offset ≡ 7 → ⊥) → Writes regs pos ring regs pos ring 0 (writeOf p offset v)
+  stores-nothing offset v h a b c = rw (unwritten (isOpen p) offset p v h a b c) (as-it-was refl refl)
+
+  -- THR, by a call of its own.
+  pub sends : (offset v r : ℕ) {regs′ pos′ ring′ : List ℕ} → addressed (isOpen p) offset ≡ RBR-THR → inLoop p ≡ false → Writes regs pos ring regs′ pos′ ring′ r (writeLine p v)
+      → Writes regs pos ring regs′ pos′ ring′ r (writeOf p offset v)
+  unfolding writeRegister
+  sends offset v r a o h = rw (a, o) h
+
+  pub loops : (offset v r : ℕ) {regs′ pos′ ring′ : List ℕ} → addressed (isOpen p) offset ≡ RBR-THR → inLoop p ≡ true → Writes regs pos ring regs′ pos′ ring′ r (writeLoop p v)
+      → Writes regs pos ring regs′ pos′ ring′ r (writeOf p offset v)
+  unfolding writeRegister
+  loops offset v r a o h = rw (a, o) h

@@ -1,0 +1,11 @@
+use mathlib.Core.Path.{refl}
+use Rattle.serial.specs.Modem.{isLoop}
+use Rattle.serial.proofs.modem.is_loop.Statement.{statement}
+use Rattle.serial.proofs.modem.is_loop.Tie as tie
+
+returns : tie.Need-returns
+unfolding isLoop
+returns c = refl
+
+pub is-loop-spec : {M : Type 1} → statement M
+is-loop-spec = tie.close (tie.spec returns)

@@ -1,0 +1,42 @@
+-- Assumes nothing.
+use mathlib.Core.Path.{refl, _∙_}
+use borrow.Author.Needs.{needs}
+use Rattle.serial.proofs.receiver.receive.Statement.{statement}
+use Rattle.serial.proofs.receiver.receive.Tie as tie
+
+nine-requires : tie.Need-nine-requires
+nine-requires c κs = search needs
+
+two-requires : tie.Need-two-requires
+two-requires c κs = search needs
+
+element-copy-out-lsr : tie.Need-element-copy-out-lsr
+element-copy-out-lsr c = search needs
+
+element-write-pos : tie.Need-element-write-pos
+element-write-pos c = search needs
+
+announce-received-data-requires : tie.Need-announce-received-data-requires
+announce-received-data-requires c κs = search needs
+
+ready-requires : tie.Need-ready-requires
+ready-requires c κs = search needs
+
+element-write-regs : tie.Need-element-write-regs
+element-write-regs c = search needs
+
+returns : tie.Need-returns
+returns c = let a = c .before .announce-received-data .ensures in record { marked = rw (a .marked, c .ready .ensures); counted = refl; raised = a .raised; once = a .once }
+
+pub receive-spec : {M : Type 1} → statement M
+receive-spec =
+    tie.close
+    (tie.spec
+    nine-requires
+    two-requires
+    element-copy-out-lsr
+    element-write-pos
+    announce-received-data-requires
+    ready-requires
+    element-write-regs
+    returns)

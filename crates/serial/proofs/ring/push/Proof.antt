@@ -1,0 +1,21 @@
+-- Assumes nothing.
+use Rattle.serial.specs.Layout.{capacity}
+use Rattle.serial.proofs.RingLaws.{put-none, put-more}
+use borrow.Author.Needs.{needs}
+use Rattle.serial.proofs.ring.push.Statement.{statement}
+use Rattle.serial.proofs.ring.push.Tie as tie
+
+whole-requires : tie.Need-whole-requires
+whole-requires c κs = search needs
+
+place-requires : tie.Need-place-requires
+place-requires c κs = search needs
+
+element-write-ring : tie.Need-element-write-ring
+element-write-ring c = search needs
+
+returns : tie.Need-returns
+returns c = rw (c .place .ensures) (put-more capacity _ (put-none capacity _ _ _) (c .before .before .before .pre) (c .before .whole .ensures))
+
+pub push-spec : {M : Type 1} → statement M
+push-spec = tie.close (tie.spec whole-requires place-requires element-write-ring returns)

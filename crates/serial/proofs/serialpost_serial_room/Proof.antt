@@ -1,0 +1,18 @@
+-- Assumes nothing.
+use mathlib.Core.Path.{refl}
+use Rattle.serial.proofs.Receiving.{room-left}
+use borrow.Author.Needs.{needs}
+use Rattle.serial.proofs.serialpost_serial_room.Statement.{statement}
+use Rattle.serial.proofs.serialpost_serial_room.Tie as tie
+
+count-requires : tie.Need-count-requires
+count-requires c κs = search needs
+
+sub-result : tie.Need-sub-result
+sub-result c = search needs
+
+returns : tie.Need-returns
+returns c = room-left _ _ _ (c .count .ensures) refl
+
+pub serialpost-serial-room-spec : {M : Type 1} → statement M
+serialpost-serial-room-spec = tie.close (tie.spec count-requires sub-result returns)

@@ -1,0 +1,75 @@
+// IER and IIR: kinds of interrupt are marked, unmarked and announced.
+use crate::memory;
+use crate::memory::IER;
+use crate::memory::IIR;
+ghost use mathlib.Core.Path.{_≡_};
+ghost use Prim.Native.Nat.{ℕ};
+ghost use Rattle.serial.specs.Interrupts.{Kind, receivedData, transmitterEmpty, ierStored, mark, unmark, isDue, iirRead};
+ghost use Rattle.serial.specs.Calls.{Announces};
+
+// No interrupt is pending. A read of IIR leaves it so.
+const NONE_PENDING: u8 = 0x01;
+
+pub const AFTER_READ: u8 = NONE_PENDING;
+
+pub fn ier_stored(value: u8) -> u8
+    ensures { λ r. ⌜ r ≡ ierStored value ⌝ }
+{
+    value & 0x0f
+}
+
+fn mark(iir: u8, marked: u8) -> u8
+    ensures { λ r. ⌜ ((e : ℕ) → r ≡ mark iir (record { enabledBy = e; markedBy = marked })) ⌝ }
+{
+    (iir & 0xfe) | marked
+}
+
+pub fn unmark_received_data(iir: u8) -> u8
+    ensures { λ r. ⌜ r ≡ unmark iir receivedData ⌝ }
+{
+    let left = iir & 0xfb;
+    if left == 0 {
+        return NONE_PENDING;
+    }
+    left
+}
+
+fn is_due(ier: u8, iir: u8, enabled: u8, marked: u8) -> bool
+    ensures { λ r. ⌜ r ≡ isDue ier iir (record { enabledBy = enabled; markedBy = marked }) ⌝ }
+{
+    if ier & enabled == 0 {
+        return false;
+    }
+    iir & marked == 0
+}
+
+// A kind is announced. The answer: how often the interrupt is to be raised.
+fn announce(regs: &mut [u8; 9], enabled: u8, marked: u8) -> u32
+    ensures { λ r. ⌜ Announces (now (regs .entry)) (record { enabledBy = enabled; markedBy = marked }) (now (regs .exit)) r ⌝ }
+{
+    let iir = regs[IIR];
+    if is_due(regs[IER], iir, enabled, marked) {
+        memory::nine(regs);
+        regs[IIR] = mark(iir, marked);
+        return 1;
+    }
+    0
+}
+
+pub fn announce_received_data(regs: &mut [u8; 9]) -> u32
+    ensures { λ r. ⌜ Announces (now (regs .entry)) receivedData (now (regs .exit)) r ⌝ }
+{
+    announce(regs, 0x01, 0x04)
+}
+
+pub fn announce_transmitter_empty(regs: &mut [u8; 9]) -> u32
+    ensures { λ r. ⌜ Announces (now (regs .entry)) transmitterEmpty (now (regs .exit)) r ⌝ }
+{
+    announce(regs, 0x02, 0x02)
+}
+
+pub fn iir_read(iir: u8) -> u8
+    ensures { λ r. ⌜ r ≡ iirRead iir ⌝ }
+{
+    iir | 0xc0
+}

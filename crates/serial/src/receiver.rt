@@ -1,0 +1,58 @@
+// The receiver: bytes come, wait in the ring, and are read.
+use crate::interrupts;
+use crate::line_status;
+use crate::memory;
+use crate::memory::IIR;
+use crate::memory::LSR;
+use crate::ring;
+ghost use Rattle.serial.specs.Port.{readRbr, writeLoop};
+ghost use Rattle.serial.specs.Layout.{portOf};
+ghost use Rattle.serial.specs.Calls.{Reads, Writes, Received};
+
+// RBR: the first byte leaves.
+pub fn read_rbr(regs: &mut [u8; 9], pos: &mut [u32; 2], ring: &[u8; 64]) -> u32
+    ensures { λ r. ⌜ Reads (now (regs .entry)) (now (pos .entry)) (now (ring .entry)) (now (regs .exit)) (now (pos .exit)) r (readRbr (portOf (now (regs .entry)) (now (pos .entry)) (now (ring .entry)))) ⌝ }
+{
+    memory::nine(regs);
+    memory::two(pos);
+    let lsr = regs[LSR];
+    let n = ring::count(pos);
+    regs[IIR] = interrupts::unmark_received_data(regs[IIR]);
+    if n == 0 {
+        regs[LSR] = line_status::after_read(lsr, 0);
+        return 0;
+    }
+    let start = pos[0];
+    pos[0] = ring::next(start);
+    pos[1] = n - 1;
+    regs[LSR] = line_status::after_read(lsr, n - 1);
+    memory::wide(ring::first(ring, start))
+}
+
+// The bytes put into the ring wait from now on, `n` in all: data is ready, received data is
+// announced. The answer: how often the interrupt is to be raised.
+pub fn receive(regs: &mut [u8; 9], pos: &mut [u32; 2], n: u32) -> u32
+    ensures { λ r. ⌜ Received (now (regs .entry)) (now (pos .entry)) n (now (regs .exit)) (now (pos .exit)) r ⌝ }
+{
+    memory::nine(regs);
+    memory::two(pos);
+    let lsr = regs[LSR];
+    pos[1] = n;
+    let raises = interrupts::announce_received_data(regs);
+    regs[LSR] = line_status::ready(lsr);
+    raises
+}
+
+// THR in the loop: the byte comes back, or is lost where the receiver is full.
+pub fn write_loop(regs: &mut [u8; 9], pos: &mut [u32; 2], ring: &mut [u8; 64], value: u8) -> u32
+    ensures { λ r. ⌜ Writes (now (regs .entry)) (now (pos .entry)) (now (ring .entry)) (now (regs .exit)) (now (pos .exit)) (now (ring .exit)) r (writeLoop (portOf (now (regs .entry)) (now (pos .entry)) (now (ring .entry))) value) ⌝ }
+{
+    let n = ring::count(pos);
+    if n == ring::CAPACITY {
+        return 0;
+    }
+    memory::nine(regs);
+    memory::two(pos);
+    ring::push(ring, pos[0], n, value);
+    512 * receive(regs, pos, n + 1)
+}
