@@ -14,7 +14,7 @@ use Rattle.serial.specs.Interrupts.{Kind, mark, isDue, announce}
 use Rattle.serial.specs.LineStatus.{lsrAfterRead}
 use Rattle.serial.specs.Ring.{Put}
 use Rattle.serial.specs.Layout.{capacity}
-use Rattle.serial.specs.Calls.{Announces}
+use Rattle.serial.specs.Calls.{Announces, WaitAfterRead}
 use Rattle.serial.proofs.RingLaws.{put-none, put-more}
 
 -- ---- A kind is announced
@@ -30,15 +30,15 @@ module _ (regs : List ℕ) (kind : Kind) where
 
 -- ---- LSR by the number of bytes that are left
 
-pub none-left : (left : List ℕ) (n lsr : ℕ) → length left ≡ n → n ≡ 0 → bitAnd lsr 0xfe ≡ lsrAfterRead left lsr
+pub none-left : (regs : List ℕ) (n : ℕ) → n ≡ 0 → WaitAfterRead regs n (set regs 5 (bitAnd (getD regs 5 0) 0xfe))
 unfolding lsrAfterRead
-none-left [] n lsr e z = refl
-none-left (x ∷ xs) n lsr e z = absurd (omega arith)
+none-left regs n z [] e = refl
+none-left regs n z (x ∷ xs) e = absurd (omega arith)
 
-pub some-left : (left : List ℕ) (n lsr : ℕ) → length left ≡ n → (n ≡ 0 → ⊥) → lsr ≡ lsrAfterRead left lsr
+pub some-left : (regs : List ℕ) (n : ℕ) → (n ≡ 0 → ⊥) → WaitAfterRead regs n regs
 unfolding lsrAfterRead
-some-left [] n lsr e z = absurd (z (sym e))
-some-left (x ∷ xs) n lsr e z = refl
+some-left regs n z [] e = absurd (z (sym e))
+some-left regs n z (x ∷ xs) e = sym (set-getD regs 5 0)
 
 -- ---- The bytes of an input go into the ring one by one
 

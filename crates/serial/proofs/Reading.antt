@@ -6,6 +6,7 @@ use mathlib.Core.List.{List, [], _∷_, tail}
 use Prim.Native.Nat.{ℕ, _+_, _-_, _*_, _%_}
 use native.Mathlib.Omega.{arith}
 use lib.ListN.{length, getD, set, length-set}
+use lib.Seq.{getD-set-other}
 use Rattle.common.specs.Lists.{firstOr0}
 use Rattle.serial.specs.Interrupts.{receivedData, unmark, iirRead, iirAfterRead}
 use Rattle.serial.specs.LineStatus.{lsrAfterRead}
@@ -13,7 +14,7 @@ use Rattle.serial.specs.Modem.{msrRead}
 use Rattle.serial.specs.Port.{Port, Register, isOpen, addressed, replies, readRegister, readRbr, readOf}
 use Rattle.serial.specs.Ring.{queue}
 use Rattle.serial.specs.Layout.{capacity, startOf, countOf, portOf}
-use Rattle.serial.specs.Calls.{Reads}
+use Rattle.serial.specs.Calls.{Reads, WaitAfterRead}
 use Rattle.serial.proofs.RingLaws.{queue-length, queue-first}
 use Rattle.serial.proofs.Registers.{marks, receiver, placed}
 use Rattle.serial.proofs.Answering.{as-it-was, registers-alone, other-count}
@@ -41,26 +42,26 @@ module _ (regs pos ring : List ℕ) where
     unfolding readRegister addressed
     answers-iir offset r e b = rw e (registers-alone n (length-set regs _ _ ∙ n) (marks regs pos ring n iirAfterRead) (rw b (omega arith)))
 
-    -- RBR
-    module _ (u l : ℕ) (w : u ≡ unmark (p .iir) receivedData) where
-      long : length (set (set regs 2 u) 5 l) ≡ 9
-      long = length-set (set regs 2 u) _ _ ∙ length-set regs _ _ ∙ n
-
-      pub reads-none : (k : ℕ) → k ≡ countOf pos → k ≡ 0 → ((left : List ℕ) → length left ≡ 0 → l ≡ lsrAfterRead left (p .lsr))
-          → Reads regs pos ring (set (set regs 2 u) 5 l) pos 0 (readRbr p)
-      unfolding portOf queue
-      reads-none k c z e =
-          let none : countOf pos ≡ 0 = sym c ∙ z in
-          registers-alone n long (receiver regs pos ring n u l pos ring refl ∙ rw (none, w, e [] refl)) (rw none)
-
-      -- k bytes wait; s is the start once the first, b, has left
-      pub reads-first : length pos ≡ 2 → (k s b : ℕ) → k ≡ countOf pos → s ≡ (startOf pos + 1) % capacity → b ≡ getD ring (startOf pos % capacity) 0 → (k ≡ 0 → ⊥)
-          → ((left : List ℕ) → length left ≡ k - 1 → l ≡ lsrAfterRead left (p .lsr))
-          → Reads regs pos ring (set (set regs 2 u) 5 l) (set (set pos 0 s) 1 (k - 1)) b (readRbr p)
+    -- RBR: u is IIR with received data unmarked, k bytes wait
+    module _ (u : ℕ) (w : u ≡ unmark (p .iir) receivedData) (k : ℕ) (c : k ≡ countOf pos) {regs′ : List ℕ} where
+      with-lsr : (m : ℕ) → WaitAfterRead (set regs 2 u) m regs′ → (left : List ℕ) → length left ≡ m → regs′ ≡ set (set regs 2 u) 5 (lsrAfterRead left (p .lsr))
       unfolding portOf
-      reads-first m k s b c f v z e =
+      with-lsr m e left l = e left l ∙ rw (getD-set-other regs 2 5 u 0 (λ x. omega arith))
+
+      pub reads-none : k ≡ 0 → WaitAfterRead (set regs 2 u) 0 regs′ → Reads regs pos ring regs′ pos 0 (readRbr p)
+      unfolding portOf queue
+      reads-none z e =
+          let none : countOf pos ≡ 0 = sym c ∙ z in
+          rw (with-lsr 0 e [] refl)
+          (registers-alone n (length-set (set regs 2 u) _ _ ∙ length-set regs _ _ ∙ n) (receiver regs pos ring n u _ pos ring refl ∙ rw (none, w)) (rw none))
+
+      -- s is the start once the first byte, b, has left
+      pub reads-first : length pos ≡ 2 → (s b : ℕ) → s ≡ (startOf pos + 1) % capacity → b ≡ getD ring (startOf pos % capacity) 0 → (k ≡ 0 → ⊥) → WaitAfterRead (set regs 2 u) (k - 1) regs′
+          → Reads regs pos ring regs′ (set (set pos 0 s) 1 (k - 1)) b (readRbr p)
+      unfolding portOf
+      reads-first m s b f v z e =
           let left : List ℕ = queue capacity ring s (k - 1) in
           let there = placed pos s (k - 1) m (omega arith) in
           let lies : queue capacity ring (startOf pos) (countOf pos) ≡ b ∷ left = rw (sym c, v, f) (queue-first capacity ring (startOf pos) k z) in
-          let holds = receiver regs pos ring n u l (set (set pos 0 s) 1 (k - 1)) ring {waiting = left} (rw (there .0, there .1)) in
-          other-count (holds ∙ rw (lies, w, e left (queue-length capacity ring s (k - 1)))) refl (λ same. z (omega (arith, there .1))) (rw lies (omega arith))
+          let holds = receiver regs pos ring n u (lsrAfterRead left (p .lsr)) (set (set pos 0 s) 1 (k - 1)) ring {waiting = left} (rw (there .0, there .1)) in
+          rw (with-lsr (k - 1) e left (queue-length capacity ring s (k - 1))) (other-count (holds ∙ rw (lies, w)) refl (λ same. z (omega (arith, there .1))) (rw lies (omega arith)))

@@ -3,9 +3,9 @@ use Prim.Native.Nat.{ℕ, _+_, _*_, _≤_}
 use mathlib.Core.Path.{_≡_}
 use mathlib.Core.List.{List, [], _∷_}
 use mathlib.Core.Bool.{cond}
-use lib.ListN.{getD, set}
+use lib.ListN.{length, getD, set}
 use Rattle.serial.specs.Interrupts.{Kind, receivedData, announce}
-use Rattle.serial.specs.LineStatus.{lsrReady}
+use Rattle.serial.specs.LineStatus.{lsrReady, lsrAfterRead}
 use Rattle.serial.specs.Port.{Port, Out, Input, fresh, roomOf}
 use Rattle.serial.specs.Layout.{capacity, portOf, spareOf}
 
@@ -69,3 +69,7 @@ pub record Received (regs pos : List ℕ) (n : ℕ) (regs′ pos′ : List ℕ) 
   pub counted : pos′ ≡ set pos 1 n
   pub raised : r ≡ announce (getD regs 1 0) (getD regs 2 0) receivedData .raises
   pub once : r ≤ 1
+
+-- A byte has been read and n wait.
+abbrev pub WaitAfterRead : List ℕ → ℕ → List ℕ → Type 0
+WaitAfterRead regs n regs′ = (left : List ℕ) → length left ≡ n → regs′ ≡ set regs 5 (lsrAfterRead left (getD regs 5 0))

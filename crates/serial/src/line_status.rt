@@ -1,9 +1,9 @@
 // LSR.
+use crate::memory;
+use crate::memory::LSR;
 ghost use mathlib.Core.Path.{_≡_};
-ghost use mathlib.Core.List.{List};
-ghost use Prim.Native.Nat.{ℕ};
-ghost use lib.ListN.{length};
-ghost use Rattle.serial.specs.LineStatus.{lsrReady, lsrAfterRead};
+ghost use Rattle.serial.specs.LineStatus.{lsrReady};
+ghost use Rattle.serial.specs.Calls.{WaitAfterRead};
 
 // Bytes have come.
 pub fn ready(lsr: u8) -> u8
@@ -12,12 +12,12 @@ pub fn ready(lsr: u8) -> u8
     lsr | 0x01
 }
 
-// A byte has been read and `left` are left.
-pub fn after_read(lsr: u8, left: u32) -> u8
-    ensures { λ r. ⌜ ((bytes : List ℕ) → length bytes ≡ left → r ≡ lsrAfterRead bytes lsr) ⌝ }
+// A byte has been read and `left` wait: data is ready no more where none does.
+pub fn after_read(regs: &mut [u8; 9], left: u32)
+    ensures { λ r. ⌜ WaitAfterRead (now (regs .entry)) left (now (regs .exit)) ⌝ }
 {
     if left == 0 {
-        return lsr & 0xfe;
+        memory::nine(regs);
+        regs[LSR] = regs[LSR] & 0xfe;
     }
-    lsr
 }

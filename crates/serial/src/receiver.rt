@@ -15,17 +15,16 @@ pub fn read_rbr(regs: &mut [u8; 9], pos: &mut [u32; 2], ring: &[u8; 64]) -> u32
 {
     memory::nine(regs);
     memory::two(pos);
-    let lsr = regs[LSR];
     let n = ring::count(pos);
     regs[IIR] = interrupts::unmark_received_data(regs[IIR]);
     if n == 0 {
-        regs[LSR] = line_status::after_read(lsr, 0);
+        line_status::after_read(regs, 0);
         return 0;
     }
     let start = pos[0];
     pos[0] = ring::next(start);
     pos[1] = n - 1;
-    regs[LSR] = line_status::after_read(lsr, n - 1);
+    line_status::after_read(regs, n - 1);
     memory::wide(ring::first(ring, start))
 }
 

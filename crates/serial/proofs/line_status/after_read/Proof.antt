@@ -1,12 +1,24 @@
+-- Assumes nothing.
 use Rattle.serial.proofs.Leaves.{none-left, some-left}
+use borrow.Author.Needs.{needs}
 use Rattle.serial.proofs.line_status.after_read.Statement.{statement}
 use Rattle.serial.proofs.line_status.after_read.Tie as tie
 
+nine-requires : tie.Need-nine-requires
+nine-requires c κs = search needs
+
+element-copy-out-regs : tie.Need-element-copy-out-regs
+element-copy-out-regs c = search needs
+
+element-write-regs : tie.Need-element-write-regs
+element-write-regs c = search needs
+
 returns : tie.Need-returns
-returns c = λ bytes e. none-left bytes _ _ e (c .if1 .taken)
+returns c = none-left (c .before .before .before .before .args .regs .now) _ (c .before .before .before .if1 .taken)
 
 returns-2 : tie.Need-returns-2
-returns-2 c = λ bytes e. some-left bytes _ _ e (c .if1 .left)
+returns-2 c = some-left _ _ (c .if1 .left)
 
 pub after-read-spec : {M : Type 1} → statement M
-after-read-spec = tie.close (tie.spec returns returns-2)
+after-read-spec =
+    tie.close (tie.spec nine-requires element-copy-out-regs element-write-regs returns returns-2)

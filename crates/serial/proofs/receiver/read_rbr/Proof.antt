@@ -1,5 +1,5 @@
 -- Assumes nothing.
-use mathlib.Core.Path.{sym, _∙_}
+use mathlib.Core.Path.{_∙_}
 use Rattle.serial.specs.Layout.{portOf}
 use Rattle.serial.proofs.Reading.{reads-none, reads-first}
 use borrow.Author.Needs.{needs}
@@ -11,9 +11,6 @@ nine-requires c κs = search needs
 
 two-requires : tie.Need-two-requires
 two-requires c κs = search needs
-
-element-copy-out-lsr : tie.Need-element-copy-out-lsr
-element-copy-out-lsr c = search needs
 
 count-requires : tie.Need-count-requires
 count-requires c κs = search needs
@@ -30,14 +27,11 @@ element-write-regs c = search needs
 after-read-requires : tie.Need-after-read-requires
 after-read-requires c κs = search needs
 
-element-write-regs-2 : tie.Need-element-write-regs-2
-element-write-regs-2 c = search needs
-
 returns : tie.Need-returns
 unfolding portOf
 returns c =
     let a = c .before .before .before .before .before .before .before .before .before .before .before .args in
-    reads-none (a .regs .now) (a .pos .now) (a .ring .now) (c .before .before .before .before .before .before .before .before .before .nine .ensures) _ _ (c .before .before .unmark-received-data .ensures) _ (c .before .before .before .before .count .ensures) (c .before .if1 .taken) (c .after-read .ensures)
+    reads-none (a .regs .now) (a .pos .now) (a .ring .now) (c .before .before .before .before .before .before .before .before .before .nine .ensures) _ (c .before .before .before .unmark-received-data .ensures) _ (c .before .before .before .before .before .count .ensures) (c .before .before .if1 .taken) (c .after-read .ensures)
 
 element-copy-out-start : tie.Need-element-copy-out-start
 element-copy-out-start c = search needs
@@ -60,9 +54,6 @@ sub-after-read c = search needs
 after-read-requires-2 : tie.Need-after-read-requires-2
 after-read-requires-2 c κs = search needs
 
-element-write-regs-3 : tie.Need-element-write-regs-3
-element-write-regs-3 c = search needs
-
 first-requires : tie.Need-first-requires
 first-requires c κs = search needs
 
@@ -73,8 +64,8 @@ returns-2 : tie.Need-returns-2
 unfolding portOf
 returns-2 c =
     let a = c .before .before .before .before .before .before .before .before .before .before .before .before .before .before .before .args in
-    reads-first (a .regs .now) (a .pos .now) (a .ring .now) (c .before .before .before .before .before .before .before .before .before .before .before .before .before .nine .ensures) _ _ (c .before .before .before .before .before .before .unmark-received-data .ensures) (c .before .before .before .before .before .before .before .before .before .before .before .two .ensures) _ _ _ (c .before .before .before .before .before .before .before .before .count .ensures)
-    (c .before .before .before .next .ensures) (c .wide .ensures ∙ c .before .first .ensures) (c .before .before .before .before .before .if1 .left) (c .before .before .after-read2 .ensures)
+    reads-first (a .regs .now) (a .pos .now) (a .ring .now) (c .before .before .before .before .before .before .before .before .before .before .before .before .before .nine .ensures) _ (c .before .before .before .before .before .before .before .unmark-received-data .ensures) _ (c .before .before .before .before .before .before .before .before .before .count .ensures) (c .before .before .before .before .before .before .before .before .before .before .before .two .ensures) _ _
+    (c .before .before .before .before .next .ensures) (c .wide .ensures ∙ c .before .first .ensures) (c .before .before .before .before .before .before .if1 .left) (c .before .before .after-read2 .ensures)
 
 pub read-rbr-spec : {M : Type 1} → statement M
 read-rbr-spec =
@@ -82,13 +73,11 @@ read-rbr-spec =
     (tie.spec
     nine-requires
     two-requires
-    element-copy-out-lsr
     count-requires
     element-copy-out-unmark-received-data
     unmark-received-data-requires
     element-write-regs
     after-read-requires
-    element-write-regs-2
     returns
     element-copy-out-start
     next-requires
@@ -97,7 +86,6 @@ read-rbr-spec =
     element-write-pos-2
     sub-after-read
     after-read-requires-2
-    element-write-regs-3
     first-requires
     wide-requires
     returns-2)
