@@ -1,8 +1,11 @@
+-- Laws of the rooms, then of the memory, then what each answer of the code is in the definition, then the runs.
 pub mod RingLaws
 pub mod Leaves
+pub mod Addressing
 pub mod Registers
 pub mod Answering
-pub mod Addressing
 pub mod Reading
 pub mod Receiving
 pub mod Sending
+pub mod Bounds
+pub mod Examples

@@ -25,20 +25,20 @@ module _ (regs pos ring : List ℕ) where
 
   -- A register that a read leaves as it is.
   pub answers : (offset r : ℕ) {register : Register} {v : ℕ} → addressed (isOpen p) offset ≡ register → readRegister p register ≡ replies p v → r ≡ v
-      → Reads regs pos ring regs pos r (readOf p offset)
+      → Reads (λ q. readOf q offset) regs pos ring regs pos r
   answers offset r a e b = rw (a, e) (as-it-was refl (rw b (omega arith)))
 
   -- The same at the offsets that DLAB does not touch: `refl` says which register lies at n.
-  pub answers-at : (offset r n : ℕ) {v : ℕ} → offset ≡ n → readRegister p (addressed (isOpen p) n) ≡ replies p v → r ≡ v → Reads regs pos ring regs pos r (readOf p offset)
+  pub answers-at : (offset r n : ℕ) {v : ℕ} → offset ≡ n → readRegister p (addressed (isOpen p) n) ≡ replies p v → r ≡ v → Reads (λ q. readOf q offset) regs pos ring regs pos r
   answers-at offset r n k e b = rw k (answers n r refl e b)
 
   -- A read of a register by a call of its own.
-  pub hands-on : (offset r : ℕ) {register : Register} {regs′ pos′ : List ℕ} → addressed (isOpen p) offset ≡ register → Reads regs pos ring regs′ pos′ r (readRegister p register)
-      → Reads regs pos ring regs′ pos′ r (readOf p offset)
+  pub hands-on : (offset r : ℕ) {register : Register} {regs′ pos′ : List ℕ} → addressed (isOpen p) offset ≡ register → Reads (λ q. readRegister q register) regs pos ring regs′ pos′ r
+      → Reads (λ q. readOf q offset) regs pos ring regs′ pos′ r
   hands-on offset r a h = rw a h
 
   module _ (n : length regs ≡ 9) where
-    pub answers-iir : (offset r : ℕ) → offset ≡ 2 → r ≡ iirRead (p .iir) → Reads regs pos ring (set regs 2 iirAfterRead) pos r (readOf p offset)
+    pub answers-iir : (offset r : ℕ) → offset ≡ 2 → r ≡ iirRead (p .iir) → Reads (λ q. readOf q offset) regs pos ring (set regs 2 iirAfterRead) pos r
     unfolding readRegister addressed
     answers-iir offset r e b = rw e (registers-alone n (length-set regs _ _ ∙ n) (marks regs pos ring n iirAfterRead) (rw b (omega arith)))
 
@@ -48,7 +48,7 @@ module _ (regs pos ring : List ℕ) where
       unfolding portOf
       with-lsr m e left l = e left l ∙ rw (getD-set-other regs 2 5 u 0 (λ x. omega arith))
 
-      pub reads-none : k ≡ 0 → WaitAfterRead (set regs 2 u) 0 regs′ → Reads regs pos ring regs′ pos 0 (readRbr p)
+      pub reads-none : k ≡ 0 → WaitAfterRead (set regs 2 u) 0 regs′ → Reads readRbr regs pos ring regs′ pos 0
       unfolding portOf queue
       reads-none z e =
           let none : countOf pos ≡ 0 = sym c ∙ z in
@@ -57,7 +57,7 @@ module _ (regs pos ring : List ℕ) where
 
       -- s is the start once the first byte, b, has left
       pub reads-first : length pos ≡ 2 → (s b : ℕ) → s ≡ (startOf pos + 1) % capacity → b ≡ getD ring (startOf pos % capacity) 0 → (k ≡ 0 → ⊥) → WaitAfterRead (set regs 2 u) (k - 1) regs′
-          → Reads regs pos ring regs′ (set (set pos 0 s) 1 (k - 1)) b (readRbr p)
+          → Reads readRbr regs pos ring regs′ (set (set pos 0 s) 1 (k - 1)) b
       unfolding portOf
       reads-first m s b f v z e =
           let left : List ℕ = queue capacity ring s (k - 1) in

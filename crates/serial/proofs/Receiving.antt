@@ -63,12 +63,12 @@ module _ (regs pos ring : List ℕ) (n : ℕ) (c : n ≡ countOf pos) where
 
   -- ---- From the loop
 
-  pub loop-drops : (v : ℕ) → n ≡ capacity → Writes regs pos ring regs pos ring 0 (writeLoop p v)
+  pub loop-drops : (v : ℕ) → n ≡ capacity → Writes (λ q. writeLoop q v) regs pos ring regs pos ring 0
   loop-drops v e = rw (full e) (as-it-was refl refl)
 
   pub loop-receives : (l : length regs ≡ 9) (m : length pos ≡ 2) (v : ℕ) {regs′ pos′ ring′ : List ℕ} {raises r : ℕ} → (n ≡ capacity → ⊥)
       → Put capacity ring (startOf pos) n (v ∷ []) ring′ (n + 1) → Received regs pos (n + 1) regs′ pos′ raises → r ≡ 512 * raises
-      → Writes regs pos ring regs′ pos′ ring′ r (writeLoop p v)
+      → Writes (λ q. writeLoop q v) regs pos ring regs′ pos′ ring′ r
   unfolding receives
   loop-receives l m v {raises = raises} {r = r} d put got e =
       let h : n + 1 ≤ capacity = omega arith in
@@ -76,23 +76,23 @@ module _ (regs pos ring : List ℕ) (n : ℕ) (c : n ≡ countOf pos) where
 
   -- ---- From the line
 
-  pub line-cut : (input : List ℕ) → inLoop p ≡ true → Takes regs pos ring regs pos ring 0 (inputOf p input)
+  pub line-cut : (input : List ℕ) → inLoop p ≡ true → Takes (λ q. inputOf q input) regs pos ring regs pos ring 0
   unfolding inputOf
   line-cut input o = rw o (as-it-was refl refl)
 
   module _ (input : List ℕ) (o : inLoop p ≡ false) where
-    pub line-idle : length input ≡ 0 → Takes regs pos ring regs pos ring 0 (inputOf p input)
+    pub line-idle : length input ≡ 0 → Takes (λ q. inputOf q input) regs pos ring regs pos ring 0
     unfolding inputOf
     line-idle z = rw (o, eq-eqb _ _ z) (as-it-was refl refl)
 
     module _ (z : length input ≡ 0 → ⊥) where
-      pub line-full : n ≡ capacity → Takes regs pos ring regs pos ring 0x1_0000 (inputOf p input)
+      pub line-full : n ≡ capacity → Takes (λ q. inputOf q input) regs pos ring regs pos ring 0x1_0000
       unfolding inputOf
       line-full e = rw (o, ne-eqb _ _ z, full e) (as-it-was refl refl)
 
       pub line-receives : (l : length regs ≡ 9) (m : length pos ≡ 2) (k : ℕ) {regs′ pos′ ring′ : List ℕ} {raises r : ℕ} → (n ≡ capacity → ⊥) → k ≡ min (capacity - n) (length input)
           → Put capacity ring (startOf pos) n (take k input) ring′ (n + k) → Received regs pos (n + k) regs′ pos′ raises → r ≡ k + 0x2_0000 * raises
-          → Takes regs pos ring regs′ pos′ ring′ r (inputOf p input)
+          → Takes (λ q. inputOf q input) regs pos ring regs′ pos′ ring′ r
       unfolding inputOf portOf
       line-receives l m k {raises = raises} {r = r} d f put got e =
           let h : n + k ≤ capacity = fits n k (length input) (omega arith) f in

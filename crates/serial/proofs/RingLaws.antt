@@ -3,12 +3,12 @@
 use mathlib.Core.Path.{_≡_, refl, sym, ap, ap₂, _∙_}
 use mathlib.Core.List.{List, [], _∷_, _++_, append-assoc, append-nil, tail}
 use Prim.Native.Nat.{ℕ, zero, suc, _+_, _-_, _%_, _≤_, _<_}
-use native.Mathlib.Nat.{mod-lt, mod-eq-of-lt, mod-mod, mod-add-mod, add-mod-right, mod-eq-sub-mod}
+use native.Mathlib.Nat.{add-zero, add-assoc, mod-lt, mod-eq-of-lt, mod-mod, mod-add-mod, add-mod-right, mod-eq-sub-mod}
 use native.Mathlib.Decide.{decLt}
 use native.Mathlib.Numerals.{add-one, sub-one}
 use native.Mathlib.Omega.{arith}
 use lib.ListN.{length, getD, set, take, length-set}
-use lib.Seq.{getD-set-same, getD-set-other}
+use lib.Seq.{getD-set-same, getD-set-other, take-suc}
 use Rattle.serial.specs.Ring.{queue, Put}
 
 pub queue-length : (c : ℕ) (s : List ℕ) (i n : ℕ) → length (queue c s i n) ≡ n
@@ -99,3 +99,32 @@ module _ (c : ℕ) {s bytes s₁ : List ℕ} {start n m : ℕ} (b : ℕ) (p : Pu
 
   pub put-more : Put c s start n (bytes ++ (b ∷ [])) s₂ (m + 1)
   put-more = record { behind = one-more; rest = kept ∙ fewer }
+
+-- ---- The bytes of an input are put there one by one
+
+-- i of k bytes are there; the code counts places from `from`
+pub record SoFar (c : ℕ) (ring₀ : List ℕ) (start n : ℕ) (input : List ℕ) (k from : ℕ) (ring : List ℕ) (i : ℕ) : Type 0 where
+  pub whole : length ring ≡ c
+  pub far : i ≤ k
+  pub place : from ≡ (start + n) % c
+  pub put : Put c ring₀ start n (take i input) ring (n + i)
+
+module _ (c : ℕ) (ring₀ : List ℕ) (start n : ℕ) (input : List ℕ) (k from : ℕ) where
+  pub none-yet : length ring₀ ≡ c → from ≡ (start + n) % c → SoFar c ring₀ start n input k from ring₀ 0
+  none-yet l e = record { whole = l; far = omega arith; place = e; put = rw add-zero (put-none c ring₀ start n) }
+
+  pub one-more-there : (ring : List ℕ) (i : ℕ) → n + k ≤ c → k ≤ length input → i < k → SoFar c ring₀ start n input k from ring i
+      → SoFar c ring₀ start n input k from (set ring ((from + i) % c) (getD input i 0)) (i + 1)
+  one-more-there ring i room given h s =
+      let there : (from + i) % c ≡ (start + (n + i)) % c = rw (s .place, mod-add-mod, add-assoc) in
+      let next : n + (i + 1) ≡ n + i + 1 = omega arith in
+      let inside : i < length input = omega arith in
+      record {
+        whole = length-set ring _ _ ∙ s .whole;
+        far = omega arith;
+        place = s .place;
+        put = rw (there, next, add-one i, take-suc input i 0) (put-more c (getD input i 0) (s .put) (omega arith) (s .whole));
+      }
+
+  pub all-there : (ring : List ℕ) (i : ℕ) → k ≤ i → SoFar c ring₀ start n input k from ring i → Put c ring₀ start n (take k input) ring (n + k)
+  all-there ring i h s = let e : k ≡ i = omega (arith, s .far) in rw e (s .put)

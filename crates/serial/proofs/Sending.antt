@@ -20,7 +20,7 @@ module _ (regs pos ring : List ℕ) where
 
   -- A byte goes out.
   pub line-sends : length regs ≡ 9 → (v : ℕ) {regs′ : List ℕ} {raises r : ℕ} → Announces regs transmitterEmpty regs′ raises → r ≡ v + 256 + 512 * raises
-      → Writes regs pos ring regs′ pos ring r (writeLine p v)
+      → Writes (λ q. writeLine q v) regs pos ring regs′ pos ring r
   unfolding portOf writeLine
   line-sends n v {r = r} a e =
       rw (a .marked) (registers-alone n (length-set regs _ _ ∙ n) (marks regs pos ring n _) (rw (e, a .raised)))
@@ -29,11 +29,11 @@ module _ (regs pos ring : List ℕ) where
   module _ (n : length regs ≡ 9) (offset v : ℕ) where
     stored : (k w : ℕ) (put : Settings → ℕ → Settings) {register : Register} → addressed (isOpen p) offset ≡ register → writeRegister p register v ≡ stores p (put (p .settings) w)
         → ((a b c d e f g h i : ℕ) → let l = a ∷ b ∷ c ∷ d ∷ e ∷ f ∷ g ∷ h ∷ i ∷ [] in portOf (set l k w) pos ring ≡ withSettings (portOf l pos ring) (put (portOf l pos ring .settings) w))
-        → Writes regs pos ring (set regs k w) pos ring 0 (writeOf p offset v)
+        → Writes (λ q. writeOf q offset v) regs pos ring (set regs k w) pos ring 0
     stored k w put a e t = rw (a, e) (registers-alone n (length-set regs _ _ ∙ n) (setting regs pos ring n k put w t) refl)
 
     abbrev At : ℕ → ℕ → Type 0
-    At k w = Writes regs pos ring (set regs k w) pos ring 0 (writeOf p offset v)
+    At k w = Writes (λ q. writeOf q offset v) regs pos ring (set regs k w) pos ring 0
 
     pub stores-dll : isOpen p ≡ true → offset ≡ 0 → At 0 v
     unfolding portOf writeRegister
@@ -59,16 +59,16 @@ module _ (regs pos ring : List ℕ) where
     unfolding portOf writeRegister addressed
     stores-scr e = stored 7 v putScr {register = SCR} (rw e) refl (λ a b c d e f g h i. refl)
 
-  pub stores-nothing : (offset v : ℕ) → 2 ≤ offset → (offset ≡ 3 → ⊥) → (offset ≡ 4 → ⊥) → (offset ≡ 7 → ⊥) → Writes regs pos ring regs pos ring 0 (writeOf p offset v)
+  pub stores-nothing : (offset v : ℕ) → 2 ≤ offset → (offset ≡ 3 → ⊥) → (offset ≡ 4 → ⊥) → (offset ≡ 7 → ⊥) → Writes (λ q. writeOf q offset v) regs pos ring regs pos ring 0
   stores-nothing offset v h a b c = rw (unwritten (isOpen p) offset p v h a b c) (as-it-was refl refl)
 
   -- THR, by a call of its own.
-  pub sends : (offset v r : ℕ) {regs′ pos′ ring′ : List ℕ} → addressed (isOpen p) offset ≡ RBR-THR → inLoop p ≡ false → Writes regs pos ring regs′ pos′ ring′ r (writeLine p v)
-      → Writes regs pos ring regs′ pos′ ring′ r (writeOf p offset v)
+  pub sends : (offset v r : ℕ) {regs′ pos′ ring′ : List ℕ} → addressed (isOpen p) offset ≡ RBR-THR → inLoop p ≡ false → Writes (λ q. writeLine q v) regs pos ring regs′ pos′ ring′ r
+      → Writes (λ q. writeOf q offset v) regs pos ring regs′ pos′ ring′ r
   unfolding writeRegister
   sends offset v r a o h = rw (a, o) h
 
-  pub loops : (offset v r : ℕ) {regs′ pos′ ring′ : List ℕ} → addressed (isOpen p) offset ≡ RBR-THR → inLoop p ≡ true → Writes regs pos ring regs′ pos′ ring′ r (writeLoop p v)
-      → Writes regs pos ring regs′ pos′ ring′ r (writeOf p offset v)
+  pub loops : (offset v r : ℕ) {regs′ pos′ ring′ : List ℕ} → addressed (isOpen p) offset ≡ RBR-THR → inLoop p ≡ true → Writes (λ q. writeLoop q v) regs pos ring regs′ pos′ ring′ r
+      → Writes (λ q. writeOf q offset v) regs pos ring regs′ pos′ ring′ r
   unfolding writeRegister
   loops offset v r a o h = rw (a, o) h

@@ -37,15 +37,15 @@ pub record Answers (regs pos ring regs′ pos′ ring′ : List ℕ) (r : ℕ) (
   pub spared : spareOf pos′ ring′ ≡ spareOf pos′ ring
   pub still : port ≡ portOf regs pos ring → (regs′ ≡ regs) × ((pos′ ≡ pos) × (ring′ ≡ ring))
 
--- A read answers what the definition says. It is not lent the storage to change it.
-abbrev pub Reads : List ℕ → List ℕ → List ℕ → List ℕ → List ℕ → ℕ → Out → Type 0
-Reads regs pos ring regs′ pos′ r o = Answers regs pos ring regs′ pos′ ring r (o .port) (readWord o)
+-- A call is an access of the definition. A read is not lent the storage to change it.
+abbrev pub Reads : (Port → Out) → List ℕ → List ℕ → List ℕ → List ℕ → List ℕ → ℕ → Type 0
+Reads access regs pos ring regs′ pos′ r = let o = access (portOf regs pos ring) in Answers regs pos ring regs′ pos′ ring r (o .port) (readWord o)
 
-abbrev pub Writes : List ℕ → List ℕ → List ℕ → List ℕ → List ℕ → List ℕ → ℕ → Out → Type 0
-Writes regs pos ring regs′ pos′ ring′ r o = Answers regs pos ring regs′ pos′ ring′ r (o .port) (writeWord o)
+abbrev pub Writes : (Port → Out) → List ℕ → List ℕ → List ℕ → List ℕ → List ℕ → List ℕ → ℕ → Type 0
+Writes access regs pos ring regs′ pos′ ring′ r = let o = access (portOf regs pos ring) in Answers regs pos ring regs′ pos′ ring′ r (o .port) (writeWord o)
 
-abbrev pub Takes : List ℕ → List ℕ → List ℕ → List ℕ → List ℕ → List ℕ → ℕ → Input → Type 0
-Takes regs pos ring regs′ pos′ ring′ r i = Answers regs pos ring regs′ pos′ ring′ r (i .port) (inputWord i)
+abbrev pub Takes : (Port → Input) → List ℕ → List ℕ → List ℕ → List ℕ → List ℕ → List ℕ → ℕ → Type 0
+Takes access regs pos ring regs′ pos′ ring′ r = let i = access (portOf regs pos ring) in Answers regs pos ring regs′ pos′ ring′ r (i .port) (inputWord i)
 
 -- A fresh port, whatever the storage holds; it starts at the storage's first place.
 pub record Begins (regs′ pos′ : List ℕ) : Type 0 where

@@ -58,7 +58,7 @@ pub extern "C" fn serialpost_serial_read(
     ring: &[u8; 64],
     offset: u8,
 ) -> u32
-    ensures { λ r. ⌜ Reads (now (regs .entry)) (now (pos .entry)) (now (ring .entry)) (now (regs .exit)) (now (pos .exit)) r (readOf (portOf (now (regs .entry)) (now (pos .entry)) (now (ring .entry))) offset) ⌝ }
+    ensures { λ r. ⌜ Reads (λ p. readOf p offset) (now (regs .entry)) (now (pos .entry)) (now (ring .entry)) (now (regs .exit)) (now (pos .exit)) r ⌝ }
 {
     if offset < 2 {
         if is_open(regs[LCR]) {
@@ -110,7 +110,7 @@ pub extern "C" fn serialpost_serial_write(
     offset: u8,
     value: u8,
 ) -> u32
-    ensures { λ r. ⌜ Writes (now (regs .entry)) (now (pos .entry)) (now (ring .entry)) (now (regs .exit)) (now (pos .exit)) (now (ring .exit)) r (writeOf (portOf (now (regs .entry)) (now (pos .entry)) (now (ring .entry))) offset value) ⌝ }
+    ensures { λ r. ⌜ Writes (λ p. writeOf p offset value) (now (regs .entry)) (now (pos .entry)) (now (ring .entry)) (now (regs .exit)) (now (pos .exit)) (now (ring .exit)) r ⌝ }
 {
     memory::nine(regs);
     if offset < 2 {
@@ -159,7 +159,7 @@ pub extern "C" fn serialpost_serial_input(
     ring: &mut [u8; 64],
     input: &[u8],
 ) -> u32
-    ensures { λ r. ⌜ Takes (now (regs .entry)) (now (pos .entry)) (now (ring .entry)) (now (regs .exit)) (now (pos .exit)) (now (ring .exit)) r (inputOf (portOf (now (regs .entry)) (now (pos .entry)) (now (ring .entry))) (now (input .entry))) ⌝ }
+    ensures { λ r. ⌜ Takes (λ p. inputOf p (now (input .entry))) (now (regs .entry)) (now (pos .entry)) (now (ring .entry)) (now (regs .exit)) (now (pos .exit)) (now (ring .exit)) r ⌝ }
 {
     if modem::is_loop(regs[MCR]) {
         return 0;

@@ -11,7 +11,7 @@ ghost use Rattle.serial.specs.Calls.{Reads, Writes, Received};
 
 // RBR: the first byte leaves.
 pub fn read_rbr(regs: &mut [u8; 9], pos: &mut [u32; 2], ring: &[u8; 64]) -> u32
-    ensures { λ r. ⌜ Reads (now (regs .entry)) (now (pos .entry)) (now (ring .entry)) (now (regs .exit)) (now (pos .exit)) r (readRbr (portOf (now (regs .entry)) (now (pos .entry)) (now (ring .entry)))) ⌝ }
+    ensures { λ r. ⌜ Reads readRbr (now (regs .entry)) (now (pos .entry)) (now (ring .entry)) (now (regs .exit)) (now (pos .exit)) r ⌝ }
 {
     memory::nine(regs);
     memory::two(pos);
@@ -44,7 +44,7 @@ pub fn receive(regs: &mut [u8; 9], pos: &mut [u32; 2], n: u32) -> u32
 
 // THR in the loop: the byte comes back, or is lost where the receiver is full.
 pub fn write_loop(regs: &mut [u8; 9], pos: &mut [u32; 2], ring: &mut [u8; 64], value: u8) -> u32
-    ensures { λ r. ⌜ Writes (now (regs .entry)) (now (pos .entry)) (now (ring .entry)) (now (regs .exit)) (now (pos .exit)) (now (ring .exit)) r (writeLoop (portOf (now (regs .entry)) (now (pos .entry)) (now (ring .entry))) value) ⌝ }
+    ensures { λ r. ⌜ Writes (λ p. writeLoop p value) (now (regs .entry)) (now (pos .entry)) (now (ring .entry)) (now (regs .exit)) (now (pos .exit)) (now (ring .exit)) r ⌝ }
 {
     let n = ring::count(pos);
     if n == ring::CAPACITY {
