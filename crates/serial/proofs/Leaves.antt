@@ -10,7 +10,7 @@ use lib.ListN.{length, getD, set}
 use lib.Seq.{set-getD}
 use Rattle.serial.specs.Interrupts.{Kind, mark, isDue, announce}
 use Rattle.serial.specs.LineStatus.{lsrAfterRead}
-use Rattle.serial.specs.Calls.{Announces, WaitAfterRead}
+use Rattle.serial.specs.Inside.{Announces, WaitAfterRead}
 
 -- ---- A kind is announced
 

@@ -14,7 +14,8 @@ use Rattle.serial.specs.Modem.{msrRead}
 use Rattle.serial.specs.Port.{Port, Register, isOpen, addressed, replies, readRegister, readRbr, readOf}
 use Rattle.serial.specs.Ring.{queue}
 use Rattle.serial.specs.Layout.{capacity, startOf, countOf, portOf}
-use Rattle.serial.specs.Calls.{Reads, WaitAfterRead}
+use Rattle.serial.specs.Calls.{Reads}
+use Rattle.serial.specs.Inside.{WaitAfterRead}
 use Rattle.serial.proofs.RingLaws.{queue-length, queue-first}
 use Rattle.serial.proofs.Registers.{marks, receiver, placed}
 use Rattle.serial.proofs.Answering.{as-it-was, registers-alone, other-count}

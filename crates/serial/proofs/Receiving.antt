@@ -9,9 +9,9 @@ use lib.Dec.{ltb, eqb}
 use lib.ListN.{length, set, take}
 use borrow.Author.Tests.{eq-eqb, ne-eqb, lt-ltb, le-ltb}
 use Rattle.serial.specs.Port.{Port, inLoop, hasRoom, roomOf, receives, becomes, writeLoop, takesNone, takesSome, inputOf}
-use Rattle.serial.specs.Ring.{Put}
 use Rattle.serial.specs.Layout.{capacity, startOf, countOf, portOf, spareOf}
-use Rattle.serial.specs.Calls.{Answers, Writes, Takes, HasRoom, Received}
+use Rattle.serial.specs.Calls.{Answers, Writes, Takes, HasRoom}
+use Rattle.serial.specs.Inside.{Put, Received}
 use Rattle.serial.proofs.Registers.{receiver, counted}
 use Rattle.serial.proofs.Answering.{waiting-length, as-it-was, other-count}
 

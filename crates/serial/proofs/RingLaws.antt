@@ -9,7 +9,8 @@ use native.Mathlib.Numerals.{add-one, sub-one}
 use native.Mathlib.Omega.{arith}
 use lib.ListN.{length, getD, set, take, length-set}
 use lib.Seq.{getD-set-same, getD-set-other, take-suc}
-use Rattle.serial.specs.Ring.{queue, Put}
+use Rattle.serial.specs.Ring.{queue}
+use Rattle.serial.specs.Inside.{Put}
 
 pub queue-length : (c : ℕ) (s : List ℕ) (i n : ℕ) → length (queue c s i n) ≡ n
 unfolding queue

@@ -9,7 +9,8 @@ use lib.ListN.{length, set, length-set}
 use Rattle.serial.specs.Interrupts.{transmitterEmpty, ierStored}
 use Rattle.serial.specs.Port.{Port, Settings, Register, RBR-THR, LCR, MCR, SCR, isOpen, inLoop, addressed, withSettings, stores, putIer, putLcr, putMcr, putScr, putDll, putDlm, writeLine, writeLoop, writeRegister, writeOf}
 use Rattle.serial.specs.Layout.{portOf}
-use Rattle.serial.specs.Calls.{Writes, Announces}
+use Rattle.serial.specs.Calls.{Writes}
+use Rattle.serial.specs.Inside.{Announces}
 use Rattle.serial.proofs.Registers.{setting, marks}
 use Rattle.serial.proofs.Addressing.{at-dll, at-dlm, at-ier, unwritten}
 use Rattle.serial.proofs.Answering.{as-it-was, registers-alone}

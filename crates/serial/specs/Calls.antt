@@ -1,11 +1,8 @@
 -- What a call promises of the memory that it was lent, and of the word that it answers.
-use Prim.Native.Nat.{ℕ, _+_, _*_, _≤_}
+use Prim.Native.Nat.{ℕ, _+_, _*_}
 use mathlib.Core.Path.{_≡_}
 use mathlib.Core.List.{List, [], _∷_}
 use mathlib.Core.Bool.{cond}
-use lib.ListN.{length, getD, set}
-use Rattle.serial.specs.Interrupts.{Kind, receivedData, announce}
-use Rattle.serial.specs.LineStatus.{lsrReady, lsrAfterRead}
 use Rattle.serial.specs.Port.{Port, Out, Input, fresh, roomOf}
 use Rattle.serial.specs.Layout.{capacity, portOf, spareOf}
 
@@ -55,21 +52,3 @@ pub record Begins (regs′ pos′ : List ℕ) : Type 0 where
 -- The room left, whatever the registers and the storage hold.
 abbrev pub HasRoom : List ℕ → ℕ → Type 0
 HasRoom pos r = (regs ring : List ℕ) → r ≡ roomOf (portOf regs pos ring)
-
--- ---- A kind is announced: IER lies at 1, IIR at 2
-
-pub record Announces (regs : List ℕ) (kind : Kind) (regs′ : List ℕ) (r : ℕ) : Type 0 where
-  pub marked : regs′ ≡ set regs 2 (announce (getD regs 1 0) (getD regs 2 0) kind .iir)
-  pub raised : r ≡ announce (getD regs 1 0) (getD regs 2 0) kind .raises
-  pub once : r ≤ 1
-
--- Bytes have come to the receiver, n wait: LSR lies at 5, the number of waiting bytes at 1 of the positions.
-pub record Received (regs pos : List ℕ) (n : ℕ) (regs′ pos′ : List ℕ) (r : ℕ) : Type 0 where
-  pub marked : regs′ ≡ set (set regs 2 (announce (getD regs 1 0) (getD regs 2 0) receivedData .iir)) 5 (lsrReady (getD regs 5 0))
-  pub counted : pos′ ≡ set pos 1 n
-  pub raised : r ≡ announce (getD regs 1 0) (getD regs 2 0) receivedData .raises
-  pub once : r ≤ 1
-
--- A byte has been read and n wait.
-abbrev pub WaitAfterRead : List ℕ → ℕ → List ℕ → Type 0
-WaitAfterRead regs n regs′ = (left : List ℕ) → length left ≡ n → regs′ ≡ set regs 5 (lsrAfterRead left (getD regs 5 0))

@@ -6,3 +6,4 @@ pub mod Port
 pub mod Ring
 pub mod Layout
 pub mod Calls
+pub mod Inside

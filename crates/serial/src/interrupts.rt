@@ -5,25 +5,28 @@ use crate::memory::IIR;
 ghost use mathlib.Core.Path.{_≡_};
 ghost use Prim.Native.Nat.{ℕ};
 ghost use Rattle.serial.specs.Interrupts.{Kind, receivedData, transmitterEmpty, ierStored, mark, unmark, isDue, iirRead};
-ghost use Rattle.serial.specs.Calls.{Announces};
+ghost use Rattle.serial.specs.Inside.{Announces};
 
 // No interrupt is pending. A read of IIR leaves it so.
 const NONE_PENDING: u8 = 0x01;
 
 pub const AFTER_READ: u8 = NONE_PENDING;
 
+// IER keeps four bits.
 pub fn ier_stored(value: u8) -> u8
     ensures { λ r. ⌜ r ≡ ierStored value ⌝ }
 {
     value & 0x0f
 }
 
+// A kind is marked. Kinds go by their bits: `enabled` in IER, `marked` in IIR.
 fn mark(iir: u8, marked: u8) -> u8
     ensures { λ r. ⌜ ((e : ℕ) → r ≡ mark iir (record { enabledBy = e; markedBy = marked })) ⌝ }
 {
     (iir & 0xfe) | marked
 }
 
+// Received data is unmarked, and where nothing is left marked, nothing is pending.
 pub fn unmark_received_data(iir: u8) -> u8
     ensures { λ r. ⌜ r ≡ unmark iir receivedData ⌝ }
 {
@@ -34,6 +37,7 @@ pub fn unmark_received_data(iir: u8) -> u8
     left
 }
 
+// A kind is enabled and not marked yet.
 fn is_due(ier: u8, iir: u8, enabled: u8, marked: u8) -> bool
     ensures { λ r. ⌜ r ≡ isDue ier iir (record { enabledBy = enabled; markedBy = marked }) ⌝ }
 {
@@ -68,6 +72,7 @@ pub fn announce_transmitter_empty(regs: &mut [u8; 9]) -> u32
     announce(regs, 0x02, 0x02)
 }
 
+// What a read of IIR answers: the FIFOs are always on.
 pub fn iir_read(iir: u8) -> u8
     ensures { λ r. ⌜ r ≡ iirRead iir ⌝ }
 {

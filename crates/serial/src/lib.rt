@@ -20,7 +20,6 @@ use memory::SCR;
 ghost use mathlib.Core.Path.{_≡_};
 ghost use Rattle.common.specs.Bits.{on};
 ghost use Rattle.serial.specs.Port.{readOf, writeOf, inputOf};
-ghost use Rattle.serial.specs.Layout.{portOf};
 ghost use Rattle.serial.specs.Calls.{Reads, Writes, Takes, Begins, HasRoom};
 
 // A fresh port; its storage may hold anything.

@@ -3,7 +3,7 @@ use crate::memory;
 use crate::memory::LSR;
 ghost use mathlib.Core.Path.{_≡_};
 ghost use Rattle.serial.specs.LineStatus.{lsrReady};
-ghost use Rattle.serial.specs.Calls.{WaitAfterRead};
+ghost use Rattle.serial.specs.Inside.{WaitAfterRead};
 
 // Bytes have come.
 pub fn ready(lsr: u8) -> u8

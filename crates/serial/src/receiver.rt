@@ -6,8 +6,8 @@ use crate::memory::IIR;
 use crate::memory::LSR;
 use crate::ring;
 ghost use Rattle.serial.specs.Port.{readRbr, writeLoop};
-ghost use Rattle.serial.specs.Layout.{portOf};
-ghost use Rattle.serial.specs.Calls.{Reads, Writes, Received};
+ghost use Rattle.serial.specs.Calls.{Reads, Writes};
+ghost use Rattle.serial.specs.Inside.{Received};
 
 // RBR: the first byte leaves.
 pub fn read_rbr(regs: &mut [u8; 9], pos: &mut [u32; 2], ring: &[u8; 64]) -> u32

@@ -4,12 +4,14 @@ ghost use mathlib.Core.Path.{_≡_};
 ghost use mathlib.Core.List.{[], _∷_};
 ghost use Prim.Native.Nat.{_+_, _-_, _%_, _≤_, _<_, min};
 ghost use lib.ListN.{length, getD, take};
-ghost use Rattle.serial.specs.Ring.{Put};
+ghost use Rattle.serial.specs.Inside.{Put};
 ghost use Rattle.serial.specs.Layout.{capacity, countOf};
 
 pub const CAPACITY: u32 = 64;
 
-// How many bytes wait.
+const STORAGE: usize = 64;
+
+// How many bytes wait; a number above the capacity counts as the capacity.
 pub fn count(pos: &[u32; 2]) -> u32
     ensures { λ r. ⌜ r ≡ countOf (now (pos .entry)) ⌝ }
 {
@@ -47,6 +49,7 @@ pub fn next(start: u32) -> u32
     (start % CAPACITY + 1) % CAPACITY
 }
 
+// The first byte that waits.
 pub fn first(ring: &[u8; 64], start: u32) -> u8
     ensures { λ r. ⌜ r ≡ getD (now (ring .entry)) (start % capacity) 0 ⌝ }
 {
@@ -71,7 +74,7 @@ pub fn fill(ring: &mut [u8; 64], start: u32, n: u32, input: &[u8], k: usize)
     let from = place(start, n);
     let mut i: usize = 0;
     while i < k {
-        ring[(from + i) % 64] = input[i];
+        ring[(from + i) % STORAGE] = input[i];
         i += 1;
     }
 }

@@ -4,7 +4,6 @@ use crate::memory;
 ghost use mathlib.Core.List.{List};
 ghost use Prim.Native.Nat.{ℕ};
 ghost use Rattle.serial.specs.Port.{writeLine};
-ghost use Rattle.serial.specs.Layout.{portOf};
 ghost use Rattle.serial.specs.Calls.{Writes};
 
 // THR on the line: the byte to send, and the interrupts to raise.

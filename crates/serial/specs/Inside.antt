@@ -1,0 +1,30 @@
+-- What the functions of the code promise each other. No reader has to believe it: it is proved, and no entry point speaks of it.
+use Prim.Native.Nat.{ℕ, _+_, _-_, _≤_}
+use mathlib.Core.Path.{_≡_}
+use mathlib.Core.List.{List, _++_}
+use lib.ListN.{length, getD, set}
+use Rattle.serial.specs.Interrupts.{Kind, receivedData, announce}
+use Rattle.serial.specs.LineStatus.{lsrReady, lsrAfterRead}
+use Rattle.serial.specs.Ring.{queue}
+
+-- A kind is announced: IER lies at 1, IIR at 2.
+pub record Announces (regs : List ℕ) (kind : Kind) (regs′ : List ℕ) (r : ℕ) : Type 0 where
+  pub marked : regs′ ≡ set regs 2 (announce (getD regs 1 0) (getD regs 2 0) kind .iir)
+  pub raised : r ≡ announce (getD regs 1 0) (getD regs 2 0) kind .raises
+  pub once : r ≤ 1
+
+-- Bytes have come to the receiver, n wait: LSR lies at 5, the number of waiting bytes at 1 of the positions.
+pub record Received (regs pos : List ℕ) (n : ℕ) (regs′ pos′ : List ℕ) (r : ℕ) : Type 0 where
+  pub marked : regs′ ≡ set (set regs 2 (announce (getD regs 1 0) (getD regs 2 0) receivedData .iir)) 5 (lsrReady (getD regs 5 0))
+  pub counted : pos′ ≡ set pos 1 n
+  pub raised : r ≡ announce (getD regs 1 0) (getD regs 2 0) receivedData .raises
+  pub once : r ≤ 1
+
+-- A byte has been read and n wait.
+abbrev pub WaitAfterRead : List ℕ → ℕ → List ℕ → Type 0
+WaitAfterRead regs n regs′ = (left : List ℕ) → length left ≡ n → regs′ ≡ set regs 5 (lsrAfterRead left (getD regs 5 0))
+
+-- Bytes have been put behind the n that lie from `start` on, so that m lie there; the rest of the storage is as it was.
+pub record Put (capacity : ℕ) (storage : List ℕ) (start n : ℕ) (bytes storage′ : List ℕ) (m : ℕ) : Type 0 where
+  pub behind : queue capacity storage′ start m ≡ queue capacity storage start n ++ bytes
+  pub rest : queue capacity storage′ (start + m) (capacity - m) ≡ queue capacity storage (start + m) (capacity - m)
