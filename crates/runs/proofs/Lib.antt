@@ -1,0 +1,13 @@
+pub mod Rooms
+pub mod Registers
+pub mod Effects
+pub mod Conserved
+pub mod Status
+pub mod Told
+pub mod Holes
+pub mod Reachable
+pub mod Exact
+pub mod Isolation
+pub mod Decoding
+pub mod Playing
+pub mod Words

@@ -1,0 +1,167 @@
+-- Every port that a run of bytes from a fresh one reaches is `Reachable`.
+-- Assumes nothing.
+use mathlib.Core.Path.{_≡_, refl}
+use mathlib.Core.Bool.{Bool, true, false, cond, _&&_}
+use mathlib.Core.List.{List, [], _∷_, _++_, tail}
+use Prim.Native.Nat.{ℕ, zero, suc, _<_, _≤_}
+use native.Mathlib.Omega.{arith}
+use lib.ListN.{length, take, length-append}
+use lib.Bits.{and-le-r}
+use lib.Dec.{lit<, ltb}
+use Rattle.common.specs.Lists.{some}
+use Rattle.serial.specs.Interrupts.{receivedData, ierStored, mark, unmark, Announced}
+use Rattle.serial.specs.LineStatus.{lsrReady, lsrAfterRead}
+use Rattle.serial.specs.Port.{Register, RBR-THR, IER, IIR-FCR, LCR, MCR, LSR, MSR, SCR, DLL, DLM, beyond, addressed, Settings, Port, isOpen, fresh}
+use Rattle.runs.specs.Run.{Op, read, write, input, room, Answer, step, run}
+use Rattle.runs.specs.Book.{Book, isData, accepted, taken, bookOf}
+use Rattle.runs.specs.Told.{Source, receiver, transmitter, kindOf}
+use Rattle.runs.specs.Reachable.{Bytes, OfBytes, AllOfBytes, Written, Marks, neither, onlyTransmitter, onlyReceiver, twoKinds, Reachable}
+use Rattle.runs.proofs.Rooms.{Outcome, raised, quiet, outcome}
+use Rattle.runs.proofs.Registers.{both, put, write-puts}
+use Rattle.runs.proofs.Effects.{Grounds, Announces, none, then, Effect, keeps, comes, reads, identifies, effect}
+use Rattle.runs.proofs.Conserved.{read-keeps-settings, input-keeps-settings, tail-short}
+use Rattle.runs.proofs.Status.{some-more}
+
+-- ---- Bytes
+
+bytes-append : (q l : List ℕ) → Bytes q → Bytes l → Bytes (q ++ l)
+bytes-append [] l b c = c
+bytes-append (x ∷ q) l b c = (b .0, bytes-append q l (b .1) c)
+
+bytes-take : (n : ℕ) (l : List ℕ) → Bytes l → Bytes (take n l)
+bytes-take zero l b = tt
+bytes-take (suc n) [] b = tt
+bytes-take (suc n) (x ∷ l) b = (b .0, bytes-take n l (b .1))
+
+bytes-tail : (l : List ℕ) → Bytes l → Bytes (tail l)
+bytes-tail [] b = tt
+bytes-tail (x ∷ l) b = b .1
+
+-- what is accepted is among the operation's bytes
+accepted-bytes : (b : Book) (o : Op) (a : Answer) → OfBytes o → Bytes (accepted b o a)
+unfolding accepted
+accepted-bytes b (read offset) a h = tt
+accepted-bytes b (write offset v) a h = both Bytes (isData b offset && b .loop && ltb (b .waits) (b .size)) (h .1, tt) tt
+accepted-bytes b (input bytes) a h = bytes-take (taken a) bytes h
+accepted-bytes b room a h = tt
+
+-- ---- Settings
+
+put-written : (s : Settings) (r : Register) (v : ℕ) → Written s → v < 256 → Written (put s r v)
+unfolding put ierStored
+put-written s RBR-THR v w h = w
+put-written s IER v w h = record { ier = omega (arith, and-le-r v 0x0f); lcr = w .lcr; mcr = w .mcr; scr = w .scr; dll = w .dll; dlm = w .dlm }
+put-written s IIR-FCR v w h = w
+put-written s LCR v w h = record { ier = w .ier; lcr = h; mcr = w .mcr; scr = w .scr; dll = w .dll; dlm = w .dlm }
+put-written s MCR v w h = record { ier = w .ier; lcr = w .lcr; mcr = h; scr = w .scr; dll = w .dll; dlm = w .dlm }
+put-written s LSR v w h = w
+put-written s MSR v w h = w
+put-written s SCR v w h = record { ier = w .ier; lcr = w .lcr; mcr = w .mcr; scr = h; dll = w .dll; dlm = w .dlm }
+put-written s DLL v w h = record { ier = w .ier; lcr = w .lcr; mcr = w .mcr; scr = w .scr; dll = h; dlm = w .dlm }
+put-written s DLM v w h = record { ier = w .ier; lcr = w .lcr; mcr = w .mcr; scr = w .scr; dll = w .dll; dlm = h }
+put-written s beyond v w h = w
+
+written : (p : Port) (o : Op) → OfBytes o → Written (p .settings) → Written (step p o .port .settings)
+unfolding step
+written p (read offset) h w = rw (read-keeps-settings p (addressed (isOpen p) offset)) w
+written p (write offset v) h w = rw (write-puts p (addressed (isOpen p) offset) v) (put-written (p .settings) (addressed (isOpen p) offset) v w (h .1))
+written p (input bytes) h w = rw (input-keeps-settings p bytes) w
+written p room h w = w
+
+-- ---- Marks
+
+-- with other bytes that wait, if some do
+marks-kept : {iir : ℕ} {q l : List ℕ} → Marks iir q → some l ≡ true → Marks iir l
+marks-kept neither h = neither
+marks-kept onlyTransmitter h = onlyTransmitter
+marks-kept (onlyReceiver _) h = onlyReceiver h
+marks-kept (twoKinds _) h = twoKinds h
+
+mark-marks : {iir : ℕ} {q : List ℕ} (s : Source) → Grounds q s → Marks iir q → Marks (mark iir (kindOf s)) q
+unfolding mark
+mark-marks receiver g neither = onlyReceiver g
+mark-marks receiver g onlyTransmitter = twoKinds g
+mark-marks receiver g (onlyReceiver _) = onlyReceiver g
+mark-marks receiver g (twoKinds _) = twoKinds g
+mark-marks transmitter g neither = onlyTransmitter
+mark-marks transmitter g onlyTransmitter = onlyTransmitter
+mark-marks transmitter g (onlyReceiver h) = twoKinds h
+mark-marks transmitter g (twoKinds h) = twoKinds h
+
+unmark-marks : {iir : ℕ} {q l : List ℕ} → Marks iir q → Marks (unmark iir receivedData) l
+unfolding unmark
+unmark-marks neither = neither
+unmark-marks onlyTransmitter = onlyTransmitter
+unmark-marks (onlyReceiver _) = neither
+unmark-marks (twoKinds _) = onlyTransmitter
+
+announce-marks : {s : Source} {ier iir : ℕ} {a : Announced} {q : List ℕ} → Outcome s ier iir a → Grounds q s → Marks iir q → Marks (a .iir) q
+announce-marks {s} (raised e m) g k = mark-marks s g k
+announce-marks (quiet h) g k = k
+
+announces-marks : {q : List ℕ} {ier iir iir′ n : ℕ} → Announces q ier iir iir′ n → Marks iir q → Marks iir′ q
+announces-marks none k = k
+announces-marks (then a s g) k = announce-marks (outcome s _ _) g (announces-marks a k)
+
+-- ---- Line status
+
+lsr-ready : {lsr : ℕ} (b : Bool) {c : Bool} → lsr ≡ cond b 0x61 0x60 → c ≡ true → lsrReady lsr ≡ cond c 0x61 0x60
+unfolding lsrReady
+lsr-ready true e h = rw (e, h)
+lsr-ready false e h = rw (e, h)
+
+lsr-read : (q : List ℕ) (lsr : ℕ) → lsr ≡ cond (some q) 0x61 0x60 → lsrAfterRead (tail q) lsr ≡ cond (some (tail q)) 0x61 0x60
+unfolding lsrAfterRead
+lsr-read [] lsr e = rw e
+lsr-read (x ∷ []) lsr e = rw e
+lsr-read (x ∷ y ∷ q) lsr e = e
+
+-- ---- One operation, and every run
+
+kept : {size : ℕ} {p q : Port} {a d : List ℕ} {t : Bool} {n : ℕ} → Effect p q a t d n → Bytes a → Written (q .settings) → Reachable size p → Reachable size q
+kept (keeps s m) b w k =
+    record { settings = w; marks = announces-marks m (k .marks); lsr = k .lsr; msr = k .msr; bytes = k .bytes; fits = k .fits; sized = k .sized }
+kept {p = p} (comes l s h) b w k =
+    let e = some-more (p .waiting) l s in
+    record {
+      settings = w;
+      marks = announce-marks (outcome receiver _ _) e (marks-kept (k .marks) e);
+      lsr = lsr-ready (some (p .waiting)) (k .lsr) e;
+      msr = k .msr;
+      bytes = bytes-append (p .waiting) l (k .bytes) b;
+      fits = omega (arith, length-append (p .waiting) l, k .sized);
+      sized = k .sized;
+    }
+kept {p = p} reads b w k =
+    record {
+      settings = w;
+      marks = unmark-marks (k .marks);
+      lsr = lsr-read (p .waiting) (p .lsr) (k .lsr);
+      msr = k .msr;
+      bytes = bytes-tail (p .waiting) (k .bytes);
+      fits = omega (arith, tail-short (p .waiting), k .fits);
+      sized = k .sized;
+    }
+kept identifies b w k = record { settings = w; marks = neither; lsr = k .lsr; msr = k .msr; bytes = k .bytes; fits = k .fits; sized = k .sized }
+
+pub step-reachable : (size : ℕ) (p : Port) (o : Op) → OfBytes o → Reachable size p → Reachable size (step p o .port)
+step-reachable size p o h k = kept (effect p o) (accepted-bytes (bookOf p) o (step p o .answer) h) (written p o h (k .settings)) k
+
+pub fresh-reachable : (size : ℕ) → Reachable size (fresh size)
+fresh-reachable size = record {
+  settings = record { ier = lit< tt; lcr = lit< tt; mcr = lit< tt; scr = lit< tt; dll = lit< tt; dlm = lit< tt };
+  marks = neither;
+  lsr = refl;
+  msr = refl;
+  bytes = tt;
+  fits = omega arith;
+  sized = refl;
+}
+
+pub run-reachable : (size : ℕ) (p : Port) (os : List Op) → AllOfBytes os → Reachable size p → Reachable size (run p os .port)
+unfolding run
+run-reachable size p [] h k = k
+run-reachable size p (o ∷ os) h k = run-reachable size (step p o .port) os (h .1) (step-reachable size p o (h .0) k)
+
+pub all-reachable : (size : ℕ) (os : List Op) → AllOfBytes os → Reachable size (run (fresh size) os .port)
+all-reachable size os h = run-reachable size (fresh size) os h (fresh-reachable size)

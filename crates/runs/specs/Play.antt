@@ -1,0 +1,111 @@
+-- A whole run in one call: its operations written as bytes, its answers as words.
+use Prim.Native.Nat.{ℕ, _+_, _*_, _/_, _%_, _≤_, _<_}
+use mathlib.Core.Path.{_≡_}
+use mathlib.Core.Bool.{Bool, true, false, cond, _&&_}
+use mathlib.Core.List.{List, [], _∷_, _++_}
+use lib.ListN.{length, take, drop}
+use lib.Dec.{eqb, leb}
+use Rattle.common.specs.Lists.{some}
+use Rattle.serial.specs.Port.{Port}
+use Rattle.serial.specs.Layout.{portOf}
+use Rattle.serial.specs.Calls.{sentWord}
+use Rattle.runs.specs.Run.{Op, read, write, input, room, Answer, replied, sent, took, full, hasRoom, step, run}
+
+-- ---- Operations
+
+-- Three bytes an operation, its kind first:
+--   0 offset any       read
+--   1 offset value     write
+--   2 low high         input of low + 256 * high bytes
+--   3 any any          room
+-- The bytes of the inputs lie one behind another in a list of their own, and none is left over.
+abbrev pub inputBytes : ℕ → ℕ → ℕ → ℕ
+inputBytes kind low high = cond (eqb kind 2) (low + 256 * high) 0
+
+abbrev pub opOf : ℕ → ℕ → ℕ → List ℕ → Op
+opOf kind a b bytes = cond (eqb kind 0) (read a) (cond (eqb kind 1) (write a b) (cond (eqb kind 2) (input bytes) room))
+
+pub data Decoded : Type 0 where
+  malformed : Decoded
+  asks : List Op → Decoded
+
+abbrev pub before : Op → Decoded → Decoded
+before o malformed = malformed
+before o (asks os) = asks (o ∷ os)
+
+unfoldable pub decode : List ℕ → List ℕ → Decoded
+decode [] inputs = cond (some inputs) malformed (asks [])
+decode (kind ∷ []) inputs = malformed
+decode (kind ∷ a ∷ []) inputs = malformed
+decode (kind ∷ a ∷ b ∷ rest) inputs =
+    let n = inputBytes kind a b in
+    cond (leb kind 3 && leb n (length inputs)) (before (opOf kind a b (take n inputs)) (decode rest (drop n inputs))) malformed
+
+-- A run so written. An input of 65,536 bytes or more has no two bytes for its length.
+abbrev pub encodeOp : Op → List ℕ
+encodeOp (read offset) = 0 ∷ offset ∷ 0 ∷ []
+encodeOp (write offset value) = 1 ∷ offset ∷ value ∷ []
+encodeOp (input bytes) = 2 ∷ length bytes % 256 ∷ length bytes / 256 ∷ []
+encodeOp room = 3 ∷ 0 ∷ 0 ∷ []
+
+abbrev pub encode : List Op → List ℕ
+encode [] = []
+encode (o ∷ os) = encodeOp o ++ encode os
+
+abbrev pub offered : Op → List ℕ
+offered (read offset) = []
+offered (write offset value) = []
+offered (input bytes) = bytes
+offered room = []
+
+abbrev pub allOffered : List Op → List ℕ
+allOffered [] = []
+allOffered (o ∷ os) = offered o ++ allOffered os
+
+-- ---- Answers
+
+-- The word that the call by itself answers: the reply, or the byte sent and 256, and 512 for each raise; the bytes taken, 0x1_0000 for "full", and
+-- 0x2_0000 for each raise; the room.
+abbrev pub word : Answer → ℕ
+word (replied v n) = v + 512 * n
+word (sent s n) = sentWord s + 512 * n
+word (took t n) = t + 0x2_0000 * n
+word (full n) = 0x1_0000 + 0x2_0000 * n
+word (hasRoom r) = r
+
+abbrev pub words : List Answer → List ℕ
+words [] = []
+words (a ∷ more) = word a ∷ words more
+
+-- ---- The call
+
+-- One operation: the port after it and the word that it answers.
+pub record Does (p : Port) (o : Op) (p′ : Port) (r : ℕ) : Type 0 where
+  pub port : p′ ≡ step p o .port
+  pub answer : r ≡ word (step p o .answer)
+
+-- The port is the one after the run, and the first answers are the run's.
+pub record Played (p : Port) (os : List Op) (answers : List ℕ) (p′ : Port) (answers′ : List ℕ) (r : Bool) : Type 0 where
+  pub said : r ≡ true
+  pub port : p′ ≡ run p os .port
+  pub answered : answers′ ≡ words (run p os .answers) ++ drop (length os) answers
+
+-- Nothing has changed.
+pub record Refused (regs pos ring answers regs′ pos′ ring′ answers′ : List ℕ) (r : Bool) : Type 0 where
+  pub said : r ≡ false
+  pub regs-stay : regs′ ≡ regs
+  pub pos-stay : pos′ ≡ pos
+  pub ring-stay : ring′ ≡ ring
+  pub answers-stay : answers′ ≡ answers
+
+-- What is malformed, or asks more than there is room to answer, is refused.
+pub record Plays (regs pos ring ops inputs answers regs′ pos′ ring′ answers′ : List ℕ) (r : Bool) : Type 0 where
+  pub plays : (os : List Op) → decode ops inputs ≡ asks os → length os ≤ length answers
+      → Played (portOf regs pos ring) os answers (portOf regs′ pos′ ring′) answers′ r
+  pub too-many : (os : List Op) → decode ops inputs ≡ asks os → length answers < length os → Refused regs pos ring answers regs′ pos′ ring′ answers′ r
+  pub no-run : decode ops inputs ≡ malformed → Refused regs pos ring answers regs′ pos′ ring′ answers′ r
+
+-- It is a run.
+abbrev pub isRun : Decoded → Bool
+isRun malformed = false
+isRun (asks os) = true

@@ -1,0 +1,55 @@
+-- The ports that runs from a fresh one reach. What may be restored later is one of these.
+use Prim.Native.Nat.{ℕ, _<_, _≤_}
+use mathlib.Core.Path.{_≡_}
+use mathlib.Core.Bool.{true, cond}
+use mathlib.Core.List.{List, [], _∷_}
+use lib.ListN.{length}
+use Rattle.common.specs.Lists.{some}
+use Rattle.serial.specs.Port.{Settings, Port, fresh}
+use Rattle.runs.specs.Run.{Op, read, write, input, room, run}
+
+-- Each of them is a byte.
+abbrev pub Bytes : List ℕ → Type 0
+Bytes [] = Unit {0}
+Bytes (x ∷ xs) = (x < 256) × Bytes xs
+
+-- Operations whose offsets, values and bytes are bytes.
+abbrev pub OfBytes : Op → Type 0
+OfBytes (read offset) = offset < 256
+OfBytes (write offset value) = (offset < 256) × (value < 256)
+OfBytes (input bytes) = Bytes bytes
+OfBytes room = Unit {0}
+
+abbrev pub AllOfBytes : List Op → Type 0
+AllOfBytes [] = Unit {0}
+AllOfBytes (o ∷ os) = OfBytes o × AllOfBytes os
+
+-- IER keeps four bits, the others eight.
+pub record Written (s : Settings) : Type 0 where
+  pub ier : s .ier < 16
+  pub lcr : s .lcr < 256
+  pub mcr : s .mcr < 256
+  pub scr : s .scr < 256
+  pub dll : s .dll < 256
+  pub dlm : s .dlm < 256
+
+-- IIR is one of four numbers, and received data is marked only while a byte waits.
+pub data Marks : ℕ → List ℕ → Type 0 where
+  neither : {q : List ℕ} → Marks 0x01 q
+  onlyTransmitter : {q : List ℕ} → Marks 0x02 q
+  onlyReceiver : {q : List ℕ} → some q ≡ true → Marks 0x04 q
+  twoKinds : {q : List ℕ} → some q ≡ true → Marks 0x06 q
+
+-- LSR says whether a byte waits and that the transmitter is empty; MSR is never changed; no more bytes wait than there is room for.
+pub record Reachable (size : ℕ) (p : Port) : Type 0 where
+  pub settings : Written (p .settings)
+  pub marks : Marks (p .iir) (p .waiting)
+  pub lsr : p .lsr ≡ cond (some (p .waiting)) 0x61 0x60
+  pub msr : p .msr ≡ 0xb0
+  pub bytes : Bytes (p .waiting)
+  pub fits : length (p .waiting) ≤ size
+  pub sized : p .size ≡ size
+
+-- Some run of bytes from a fresh port comes to this one.
+abbrev pub Reached : ℕ → Port → Type 0
+Reached size p = (os : List Op) × AllOfBytes os × (run (fresh size) os .port ≡ p)

@@ -1,0 +1,68 @@
+-- What the guest is told: which kinds of interrupt are marked, and when one is raised.
+use Prim.Native.Nat.{ℕ, _+_, _≤_}
+use mathlib.Core.Path.{_≡_}
+use mathlib.Core.Bool.{Bool, true, false, cond, not, _&&_}
+use mathlib.Core.List.{List, [], _∷_}
+use lib.ListN.{length}
+use Rattle.common.specs.Lists.{some}
+use Rattle.serial.specs.Interrupts.{Kind, receivedData, transmitterEmpty, isEnabled, isMarked}
+use Rattle.serial.specs.Port.{Port}
+use Rattle.runs.specs.Run.{Op, read, write, raisesOf, step}
+
+-- The two sources that interrupt.
+pub data Source : Type 0 where
+  receiver transmitter : Source
+
+abbrev pub kindOf : Source → Kind
+kindOf receiver = receivedData
+kindOf transmitter = transmitterEmpty
+
+abbrev pub enabled : Port → Source → Bool
+enabled p s = isEnabled (p .settings .ier) (kindOf s)
+
+abbrev pub marked : Port → Source → Bool
+marked p s = isMarked (p .iir) (kindOf s)
+
+-- 1 where the source is not marked in the first port and is in the second, else 0.
+abbrev pub newly : Port → Port → Source → ℕ
+newly p q s = cond (not (marked p s) && marked q s) 1 0
+
+-- What an operation may raise: the interrupt once for each source that it marks and that was not marked; and such a source is enabled.
+pub record Signals (p q : Port) (raises : ℕ) : Type 0 where
+  pub counts : raises ≡ newly p q receiver + newly p q transmitter
+  pub allowed : (s : Source) → marked p s ≡ false → marked q s ≡ true → enabled q s ≡ true
+
+-- How often a source came to be marked over a run.
+unfoldable pub markings : Port → List Op → ℕ
+markings p [] = 0
+markings p (o ∷ os) = let q = step p o .port in newly p q receiver + newly p q transmitter + markings q os
+
+-- The source is marked from here on, up to the end of the run.
+unfoldable pub Stays : Source → Port → List Op → Type 0
+Stays s p [] = marked p s ≡ true
+Stays s p (o ∷ os) = (marked p s ≡ true) × Stays s (step p o .port) os
+
+-- The guest has been told of the source since it was last unmarked: some operation found it not marked and raised the interrupt, and from then on
+-- it is marked up to the end of the run.
+pub data Told (s : Source) : Port → List Op → Type 0 where
+  now : {p : Port} {o : Op} {os : List Op} → marked p s ≡ false → 1 ≤ raisesOf (step p o .answer) → Stays s (step p o .port) os → Told s p (o ∷ os)
+  later : {p : Port} {o : Op} {os : List Op} → Told s (step p o .port) os → Told s p (o ∷ os)
+
+-- A byte waits, received data is enabled, and it is not marked: nothing tells the guest of the byte.
+pub record Untold (p : Port) : Type 0 where
+  pub waits : some (p .waiting) ≡ true
+  pub enables : enabled p receiver ≡ true
+  pub unmarked : marked p receiver ≡ false
+
+-- The operations after which that can be so though it was not so before: the identification register is read and the bytes stay; a byte is read and
+-- others stay; the enable register is written while bytes wait. The manual's chip has none of them: DIFFERENCES, "serial-forgotten-data" and
+-- "serial-quiet-enable".
+pub data Hole (p : Port) : Op → Type 0 where
+  identified : Hole p (read 2)
+  read-one : 2 ≤ length (p .waiting) → Hole p (read 0)
+  enabled-late : {v : ℕ} → enabled p receiver ≡ false → Hole p (write 1 v)
+
+-- Some operation of the run is one of them.
+pub data MeetsHole : Port → List Op → Type 0 where
+  here : {p : Port} {o : Op} {os : List Op} → Hole p o → MeetsHole p (o ∷ os)
+  further : {p : Port} {o : Op} {os : List Op} → MeetsHole (step p o .port) os → MeetsHole p (o ∷ os)
