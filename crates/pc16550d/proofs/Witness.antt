@@ -1,0 +1,79 @@
+-- Each row from the fresh device: the operations before it, the call that is in it, those behind it that show it, and the last answer of both.
+-- Assumes nothing.
+use mathlib.Core.Path.{_≡_, refl}
+use mathlib.Core.List.{List, [], _∷_, _++_}
+use Prim.Native.Nat.{ℕ}
+use native.Mathlib.Omega.{arith}
+use lib.Dec.{lit≤, lit<}
+use Rattle.sidebyside.specs.Answers.{says, refuses}
+use Rattle.sidebyside.specs.Runs.{deviceAfter, chipAfter, Shown}
+use Rattle.pc16550d.specs.Chip.{read, write, input, chipDoes}
+use Rattle.pc16550d.specs.Compare.{deviceDoes, chipOf, pair, serial-two-kinds, serial-forgotten-data, serial-stale-data, serial-stale-transmitter, serial-wide-mcr, serial-loop-transmitter, serial-loop-overrun, serial-line-overrun, serial-enable-transmitter, serial-quiet-enable, serial-fifo-off, serial-fifo-empty, serial-trigger-level, serial-modem-change}
+use Rattle.pc16550d.specs.Runs.{begins, ShownQuiet}
+use Rattle.pc16550d.proofs.Computing.{computing}
+
+abbrev sixteen : List ℕ
+sixteen = 1 ∷ 2 ∷ 3 ∷ 4 ∷ 5 ∷ 6 ∷ 7 ∷ 8 ∷ 9 ∷ 10 ∷ 11 ∷ 12 ∷ 13 ∷ 14 ∷ 15 ∷ 16 ∷ []
+
+pub shows-serial-two-kinds : Shown pair begins (write 1 0x03 ∷ write 0 0x41 ∷ input (0x42 ∷ []) ∷ []) (read 2) [] 0xc6 0xc4
+unfolding computing
+shows-serial-two-kinds = record { row = serial-two-kinds refl; device = refl; manual = refl }
+
+pub shows-serial-forgotten-data : Shown pair begins (write 1 0x01 ∷ input (0x41 ∷ []) ∷ read 2 ∷ []) (read 2) [] 0xc1 0xc4
+unfolding computing
+shows-serial-forgotten-data = record { row = serial-forgotten-data refl refl refl; device = refl; manual = refl }
+
+pub shows-serial-stale-data : Shown pair begins (write 1 0x01 ∷ input (0x41 ∷ []) ∷ write 1 0x00 ∷ []) (read 2) [] 0xc4 0xc1
+unfolding computing
+shows-serial-stale-data = record { row = serial-stale-data refl refl; device = refl; manual = refl }
+
+pub shows-serial-stale-transmitter : Shown pair begins (write 1 0x02 ∷ write 0 0x41 ∷ write 1 0x00 ∷ []) (read 2) [] 0xc2 0xc1
+unfolding computing
+shows-serial-stale-transmitter = record { row = serial-stale-transmitter refl refl; device = refl; manual = refl }
+
+pub shows-serial-wide-mcr : Shown pair begins (write 4 0xe8 ∷ []) (read 4) [] 0xe8 0x08
+unfolding computing
+shows-serial-wide-mcr = record { row = serial-wide-mcr (lit≤ tt); device = refl; manual = refl }
+
+-- DTR, RTS and OUT2 go with the loop, so that the modem's inputs stay as they are.
+pub shows-serial-loop-transmitter : Shown pair begins (write 1 0x02 ∷ read 2 ∷ write 4 0x1b ∷ []) (write 0 0x41) (read 2 ∷ []) 0xc1 0xc2
+unfolding computing
+shows-serial-loop-transmitter = record { row = serial-loop-transmitter refl refl refl; device = refl; manual = refl }
+
+pub shows-serial-loop-overrun : Shown pair begins (input sixteen ∷ write 4 0x1b ∷ []) (write 0 0x41) (read 5 ∷ []) 0x61 0x63
+unfolding computing
+shows-serial-loop-overrun = record { row = serial-loop-overrun refl (lit≤ tt); device = refl; manual = refl }
+
+pub shows-serial-line-overrun : Shown pair begins (input sixteen ∷ []) (input (0x41 ∷ [])) (read 5 ∷ []) 0x61 0x63
+unfolding computing
+shows-serial-line-overrun = record { row = serial-line-overrun refl refl (lit< tt); device = refl; manual = refl }
+
+-- The same row with 64 bytes waiting: the device refuses the input, and the chip takes it and loses it.
+pub shows-full : (deviceDoes (deviceAfter pair begins (input (sixteen ++ (sixteen ++ (sixteen ++ sixteen))) ∷ [])) (input (0x41 ∷ [])) .reply ≡ refuses)
+    × (chipDoes (chipAfter pair (chipOf begins) (input (sixteen ++ (sixteen ++ (sixteen ++ sixteen))) ∷ [])) (input (0x41 ∷ [])) .reply ≡ says 1)
+unfolding computing
+shows-full = (refl, refl)
+
+pub shows-serial-enable-transmitter : Shown pair begins [] (write 1 0x02) (read 2 ∷ []) 0xc1 0xc2
+unfolding computing
+shows-serial-enable-transmitter = record { row = serial-enable-transmitter refl refl refl; device = refl; manual = refl }
+
+pub shows-serial-quiet-enable : ShownQuiet (input (0x41 ∷ []) ∷ []) (write 1 0x01)
+unfolding computing
+shows-serial-quiet-enable = record { row = serial-quiet-enable refl refl; device = refl; low = refl; high = refl }
+
+pub shows-serial-fifo-off : Shown pair begins [] (write 2 0x00) (read 2 ∷ []) 0xc1 0x01
+unfolding computing
+shows-serial-fifo-off = record { row = serial-fifo-off refl; device = refl; manual = refl }
+
+pub shows-serial-fifo-empty : Shown pair begins (input (0x41 ∷ []) ∷ []) (write 2 0x03) (read 5 ∷ []) 0x61 0x60
+unfolding computing
+shows-serial-fifo-empty = record { row = serial-fifo-empty refl refl refl; device = refl; manual = refl }
+
+pub shows-serial-trigger-level : Shown pair begins [] (write 2 0x41) (write 1 0x01 ∷ input (0x41 ∷ []) ∷ read 2 ∷ []) 0xc4 0xcc
+unfolding computing
+shows-serial-trigger-level = record { row = serial-trigger-level {v = 0x41} refl (omega arith); device = refl; manual = refl }
+
+pub shows-serial-modem-change : Shown pair begins [] (write 4 0x18) (read 6 ∷ []) 0x80 0x83
+unfolding computing
+shows-serial-modem-change = record { row = serial-modem-change {v = 0x18} (omega arith); device = refl; manual = refl }

@@ -1,0 +1,154 @@
+-- The device beside the chip: what a port of the device is on the chip, when a call agrees, and the rows of docs/DIFFERENCES.md where it does not.
+use Prim.Native.Nat.{ℕ, _+_, _/_, _%_, _≤_, _<_}
+use mathlib.Core.Path.{_≡_}
+use mathlib.Core.List.{List, []}
+use mathlib.Core.Bool.{Bool, true, false, cond, _&&_}
+use lib.ListN.{length}
+use Rattle.common.specs.Bits.{on}
+use Rattle.common.specs.Lists.{some}
+use Rattle.sidebyside.specs.Answers.{Answer, answers, refuses, Fits}
+use Rattle.sidebyside.specs.Runs.{Pair}
+use Rattle.serial.specs.Interrupts.{Kind, receivedData, transmitterEmpty, isEnabled, isMarked, ierStored}
+use Rattle.serial.specs.Port.{Port, Register, RBR-THR, IER, IIR-FCR, MCR, addressed, isOpen, inLoop, readOf, writeOf, inputOf}
+use Rattle.serial.specs.Port as device
+use Rattle.pc16550d.specs.Chip.{Chip, pin, Op, read, write, input, chipDoes}
+use Rattle.pc16550d.specs.Chip as chip
+
+-- ---- One call of the device. The host's question for room is not among them: it changes nothing, and nothing on the chip is like it.
+
+-- The answer is the byte read, or the number of bytes taken, or "full", by which an input is refused. A write has none.
+pub record Done : Type 0 where
+  pub port : Port
+  pub reply : Answer
+  pub sent : List ℕ
+  pub raises : ℕ
+
+abbrev pub accessed : device.Out → Done
+accessed o = record { port = o .port; reply = answers (o .reply); sent = o .sent; raises = o .raises }
+
+abbrev pub fed : device.Input → Done
+fed i = record { port = i .port; reply = cond (i .full) refuses (answers (i .taken)); sent = []; raises = i .raises }
+
+unfoldable pub deviceDoes : Port → Op → Done
+deviceDoes p (read offset) = accessed (readOf p offset)
+deviceDoes p (write offset value) = accessed (writeOf p offset value)
+deviceDoes p (input bytes) = fed (inputOf p bytes)
+
+-- ---- A port of the device, read as a state of the chip
+
+abbrev pub enables : Port → Kind → Bool
+enables p kind = isEnabled (p .settings .ier) kind
+
+abbrev pub marks : Port → Kind → Bool
+marks p kind = isMarked (p .iir) kind
+
+-- The FIFOs are on, at trigger level 1; no byte was lost; nothing changed at the modem's inputs. The transmitter's mark is its pending interrupt.
+-- The mark of received data means nothing: on the chip that interrupt is pending as long as a byte waits.
+unfoldable pub chipOf : Port → Chip
+chipOf p = record {
+  line = record { lcr = p .settings .lcr; dll = p .settings .dll; dlm = p .settings .dlm };
+  interrupts = record { ier = p .settings .ier; thre = enables p transmitterEmpty && marks p transmitterEmpty };
+  receiver = record { fifos = true; trigger = 1; waiting = p .waiting; overrun = false };
+  modem = record { mcr = p .settings .mcr % 0x20; pins = p .msr / 0x10; changes = 0 };
+  scr = p .settings .scr;
+}
+
+-- ---- The ports that runs keep to
+
+-- IIR is "none", one of the two kinds, or both.
+pub data Marks (iir : ℕ) : Type 0 where
+  noMark : iir ≡ 0x01 → Marks iir
+  transmitterMark : iir ≡ 0x02 → Marks iir
+  dataMark : iir ≡ 0x04 → Marks iir
+  bothMarks : iir ≡ 0x06 → Marks iir
+
+pub record Sound (p : Port) : Type 0 where
+  pub iir : Marks (p .iir)
+  -- received data is marked only while a byte waits
+  pub held : marks p receivedData ≡ true → some (p .waiting) ≡ true
+  pub lsr : p .lsr ≡ cond (some (p .waiting)) 0x61 0x60
+  pub msr : p .msr % 0x10 ≡ 0
+  pub size : 16 ≤ p .size
+
+-- ---- A call agrees
+
+-- It looks alike from outside: the answer, the bytes sent, and the signal. Where the chip's pin rises the device raises, and where the device
+-- raises the chip's pin is high.
+pub record Alike (before : Chip) (d : Done) (c : chip.Out) : Type 0 where
+  pub reply : Fits (d .reply) (c .reply)
+  pub sent : d .sent ≡ c .sent
+  pub rise : pin before ≡ false → pin (c .chip) ≡ true → 0 < d .raises
+  pub high : 0 < d .raises → pin (c .chip) ≡ true
+
+-- And the port after it is, on the chip, the chip after it.
+pub record Agrees (before : Chip) (d : Done) (c : chip.Out) : Type 0 where
+  pub alike : Alike before d c
+  pub next : chipOf (d .port) ≡ c .chip
+
+abbrev pub AgreesAt : Port → Op → Type 0
+AgreesAt p o = Agrees (chipOf p) (deviceDoes p o) (chipDoes (chipOf p) o)
+
+-- ---- The rows
+
+-- What an operation is to the device: a register read or written, by its map; or bytes from the line.
+pub data Access : Type 0 where
+  reads : Register → Access
+  writes : Register → ℕ → Access
+  receives : List ℕ → Access
+
+abbrev pub accessOf : Port → Op → Access
+accessOf p (read offset) = reads (addressed (isOpen p) offset)
+accessOf p (write offset value) = writes (addressed (isOpen p) offset) value
+accessOf p (input bytes) = receives bytes
+
+pub data Row (p : Port) : Access → Type 0 where
+  -- IIR is read with both kinds marked: the device shows both at once, the manual the one of higher priority.
+  serial-two-kinds : p .iir ≡ 0x06 → Row p (reads IIR-FCR)
+  -- IIR is read while bytes wait and received data is enabled, and the device does not show it: a read of IIR or RBR unmarked it, or the bytes
+  -- came while it was disabled.
+  serial-forgotten-data : some (p .waiting) ≡ true → enables p receivedData ≡ true → marks p receivedData ≡ false → Row p (reads IIR-FCR)
+  -- IIR is read and shows received data, which was disabled after it was marked.
+  serial-stale-data : p .iir ≡ 0x04 → enables p receivedData ≡ false → Row p (reads IIR-FCR)
+  -- IIR is read and shows the empty transmitter, which was disabled after it was marked.
+  serial-stale-transmitter : p .iir ≡ 0x02 → enables p transmitterEmpty ≡ false → Row p (reads IIR-FCR)
+  -- MCR is read and shows one of its three high bits, which on the chip are always 0.
+  serial-wide-mcr : 0x20 ≤ p .settings .mcr → Row p (reads MCR)
+  -- THR is written in the loop while the transmitter's interrupt is enabled and not pending: on the chip it comes, on the device not.
+  serial-loop-transmitter : {v : ℕ} → inLoop p ≡ true → enables p transmitterEmpty ≡ true → marks p transmitterEmpty ≡ false
+      → Row p (writes RBR-THR v)
+  -- THR is written in the loop and 16 bytes wait: the chip loses the byte and says "overrun"; the device keeps it, or loses it and says nothing.
+  serial-loop-overrun : {v : ℕ} → inLoop p ≡ true → 16 ≤ length (p .waiting) → Row p (writes RBR-THR v)
+  -- Bytes come over the line, and more would wait than 16: the chip loses some and says "overrun"; the device takes as many as fit its own size.
+  serial-line-overrun : {bytes : List ℕ} → inLoop p ≡ false → some bytes ≡ true → 16 < length (p .waiting) + length bytes → Row p (receives bytes)
+  -- IER 0x02 goes from 0 to 1 and the transmitter's mark is not there: the chip's empty transmitter signals at once.
+  serial-enable-transmitter : {v : ℕ} → enables p transmitterEmpty ≡ false → isEnabled (ierStored v) transmitterEmpty ≡ true
+      → marks p transmitterEmpty ≡ false → Row p (writes IER v)
+  -- A write of IER lets a pending kind through, and the chip's pin rises; the device raises nothing.
+  serial-quiet-enable : {v : ℕ} → pin (chipOf p) ≡ false → pin (chip.writeRegister (chipOf p) chip.IER v .chip) ≡ true → Row p (writes IER v)
+  -- FCR is written with 0x01 off: the chip turns its FIFOs off.
+  serial-fifo-off : {v : ℕ} → on v 0x01 ≡ false → Row p (writes IIR-FCR v)
+  -- FCR is written with 0x02: the chip loses the bytes that wait.
+  serial-fifo-empty : {v : ℕ} → on v 0x01 ≡ true → on v 0x02 ≡ true → some (p .waiting) ≡ true → Row p (writes IIR-FCR v)
+  -- FCR is written with a trigger level above 1: below it the chip identifies received data as the time-out.
+  serial-trigger-level : {v : ℕ} → on v 0x01 ≡ true → (chip.triggerLevel v ≡ 1 → ⊥) → Row p (writes IIR-FCR v)
+  -- MCR is written, and by way of the loop a modem input changes: the chip keeps the change in MSR's low half, and signals it.
+  serial-modem-change : {v : ℕ} → (chip.writeMcr (chipOf p .modem) v .changes ≡ 0 → ⊥) → Row p (writes MCR v)
+
+abbrev pub RowAt : Port → Op → Type 0
+RowAt p o = Row p (accessOf p o)
+
+-- ---- Both side by side
+
+abbrev pub pair : Pair
+pair = record {
+  Device = Port;
+  Chip = Chip;
+  Op = Op;
+  deviceNext = λ p o. deviceDoes p o .port;
+  deviceReply = λ p o. deviceDoes p o .reply;
+  chipNext = λ c o. chipDoes c o .chip;
+  chipReply = λ c o. chipDoes c o .reply;
+  chipOf = chipOf;
+  Alike = λ p c o. Alike c (deviceDoes p o) (chipDoes c o);
+  Row = RowAt;
+}

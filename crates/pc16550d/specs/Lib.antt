@@ -1,0 +1,5 @@
+-- In the order to read them: the chip, the device beside it with the rows where they differ, whole runs of both, runs that drivers make.
+pub mod Chip
+pub mod Compare
+pub mod Runs
+pub mod Drivers

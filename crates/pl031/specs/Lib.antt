@@ -1,0 +1,4 @@
+-- In the order to read them: the chip, the device beside it with the rows where they differ, whole runs of both.
+pub mod Chip
+pub mod Compare
+pub mod Runs
