@@ -3,7 +3,7 @@
 
 - every row of docs/DIFFERENCES.md (a heading `### name`) has a list lists/differences/name.list, or says that no list shows it, and every
   such list has a row;
-- every row that a definition names ("DIFFERENCES, ...") is there;
+- every row that a definition names or that is a constructor of `Row` is there;
 - every theorem of docs/THEOREMS.md, written `name` ([file](path)), is declared in that file;
 - every link to a file leads to one.
 
@@ -48,6 +48,14 @@ def named_rows_exist():
                 yield f"{path} names the row {name}, which docs/DIFFERENCES.md does not have"
 
 
+def constructors_have_rows():
+    known = rows()
+    for path in tree("crates/*/specs/Compare.antt"):
+        for name in re.findall(r"^  ((?:clock|serial)-[a-z0-9-]+) :", read(path), re.M):
+            if name not in known:
+                yield f"{path} has the row {name}, which docs/DIFFERENCES.md does not have"
+
+
 def theorems_exist():
     cited = re.findall(r"`([^`\s]+)`\s+\(\[[^\]]*\]\(\.\./([^)]+)\)\)", read("docs/THEOREMS.md"))
     if not cited:
@@ -68,7 +76,7 @@ def links_lead_somewhere():
 
 def main():
     failed = 0
-    checks = [rows_have_lists, named_rows_exist, theorems_exist, links_lead_somewhere]
+    checks = [rows_have_lists, named_rows_exist, constructors_have_rows, theorems_exist, links_lead_somewhere]
     for check in checks:
         faults = list(check())
         for fault in faults:

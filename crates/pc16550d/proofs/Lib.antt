@@ -7,6 +7,7 @@ pub mod Writing
 pub mod Enabling
 pub mod OnLine
 pub mod Exact
+pub mod Linked
 pub mod Keeping
 pub mod Alongside
 pub mod Computing
