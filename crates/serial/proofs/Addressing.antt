@@ -6,7 +6,7 @@ use Prim.Native.Nat.{ℕ, _≤_, _<_}
 use native.Mathlib.Omega.{arith}
 use lib.Dec.{eqb}
 use borrow.Author.Tests.{ne-eqb}
-use Rattle.serial.specs.Port.{Port, Register, RBR-THR, IER, IIR-FCR, LCR, MCR, LSR, MSR, SCR, DLL, DLM, beyond, addressed, becomes, writeRegister}
+use Rattle.serial.specs.Port.{Port, RBR-THR, IER, IIR-FCR, LSR, MSR, DLL, DLM, beyond, addressed, becomes, writeRegister}
 
 module _ (dlab : Bool) (offset : ℕ) where
   pub at-dll : dlab ≡ true → offset ≡ 0 → addressed dlab offset ≡ DLL

@@ -1,13 +1,13 @@
 -- Runs of a fresh port of 64 bytes, worked out by hand and computed by antt.
 -- Assumes nothing.
 use mathlib.Core.Path.{_≡_, refl}
-use mathlib.Core.Bool.{Bool, true, false, cond}
-use mathlib.Core.List.{List, [], _∷_, _++_}
+use mathlib.Core.Bool.{cond}
+use mathlib.Core.List.{List, [], _∷_}
 use Prim.Native.Nat.{ℕ, zero, suc}
 use Rattle.serial.specs.Interrupts.{ierStored, mark, unmark, isDue, announce, iirRead}
 use Rattle.serial.specs.LineStatus.{lsrReady, lsrAfterRead}
 use Rattle.serial.specs.Modem.{isLoop, msrRead}
-use Rattle.serial.specs.Port.{Port, Out, Input, fresh, addressed, readRegister, readOf, receives, writeLine, writeRegister, writeOf, inputOf}
+use Rattle.serial.specs.Port.{Port, Input, fresh, addressed, readRegister, readOf, receives, writeLine, writeRegister, writeOf, inputOf}
 
 -- read an offset; write a value at an offset; input from the line
 data Access : Type 0 where

@@ -6,7 +6,7 @@ use mathlib.Core.List.{List, [], _∷_}
 use Prim.Native.Nat.{ℕ}
 use native.Mathlib.Omega.{arith}
 use lib.Bits.{bitAnd}
-use lib.ListN.{length, getD, set}
+use lib.ListN.{getD, set}
 use lib.Seq.{set-getD}
 use Rattle.serial.specs.Interrupts.{Kind, mark, isDue, announce}
 use Rattle.serial.specs.LineStatus.{lsrAfterRead}

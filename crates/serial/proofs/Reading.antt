@@ -1,16 +1,13 @@
 -- What each answer of a read is in the definition.
 -- Assumes nothing.
-use mathlib.Core.Path.{_≡_, refl, sym, ap, _∙_}
-use mathlib.Core.Bool.{Bool, true, false}
-use mathlib.Core.List.{List, [], _∷_, tail}
-use Prim.Native.Nat.{ℕ, _+_, _-_, _*_, _%_}
+use mathlib.Core.Path.{_≡_, refl, sym, _∙_}
+use mathlib.Core.List.{List, [], _∷_}
+use Prim.Native.Nat.{ℕ, _+_, _-_, _%_}
 use native.Mathlib.Omega.{arith}
 use lib.ListN.{length, getD, set, length-set}
 use lib.Seq.{getD-set-other}
-use Rattle.common.specs.Lists.{firstOr0}
 use Rattle.serial.specs.Interrupts.{receivedData, unmark, iirRead, iirAfterRead}
 use Rattle.serial.specs.LineStatus.{lsrAfterRead}
-use Rattle.serial.specs.Modem.{msrRead}
 use Rattle.serial.specs.Port.{Port, Register, isOpen, addressed, replies, readRegister, readRbr, readOf}
 use Rattle.serial.specs.Ring.{queue}
 use Rattle.serial.specs.Layout.{capacity, startOf, countOf, portOf}

@@ -3,12 +3,11 @@
 use mathlib.Core.Path.{_≡_, refl, sym, ap, _∙_}
 use mathlib.Core.Bool.{true, false}
 use mathlib.Core.List.{List, [], _∷_, _++_}
-use Prim.Native.Nat.{ℕ, _+_, _-_, _*_, _≤_, _<_, min}
+use Prim.Native.Nat.{ℕ, _+_, _-_, _*_, _≤_, min}
 use native.Mathlib.Omega.{arith}
-use lib.Dec.{ltb, eqb}
 use lib.ListN.{length, set, take}
 use borrow.Author.Tests.{eq-eqb, ne-eqb, lt-ltb, le-ltb}
-use Rattle.serial.specs.Port.{Port, inLoop, hasRoom, roomOf, receives, becomes, writeLoop, takesNone, takesSome, inputOf}
+use Rattle.serial.specs.Port.{Port, inLoop, hasRoom, roomOf, receives, writeLoop, inputOf}
 use Rattle.serial.specs.Layout.{capacity, startOf, countOf, portOf, spareOf}
 use Rattle.serial.specs.Calls.{Answers, Writes, Takes, HasRoom}
 use Rattle.serial.specs.Inside.{Put, Received}

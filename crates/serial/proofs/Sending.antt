@@ -1,10 +1,9 @@
 -- What each answer of a write is in the definition, where no byte comes to the receiver.
 -- Assumes nothing.
-use mathlib.Core.Path.{_≡_, refl, sym, ap, _∙_}
-use mathlib.Core.Bool.{Bool, true, false}
+use mathlib.Core.Path.{_≡_, refl, _∙_}
+use mathlib.Core.Bool.{true, false}
 use mathlib.Core.List.{List, [], _∷_}
 use Prim.Native.Nat.{ℕ, _+_, _*_, _≤_, _<_}
-use native.Mathlib.Omega.{arith}
 use lib.ListN.{length, set, length-set}
 use Rattle.serial.specs.Interrupts.{transmitterEmpty, ierStored}
 use Rattle.serial.specs.Port.{Port, Settings, Register, RBR-THR, LCR, MCR, SCR, isOpen, inLoop, addressed, withSettings, stores, putIer, putLcr, putMcr, putScr, putDll, putDlm, writeLine, writeLoop, writeRegister, writeOf}

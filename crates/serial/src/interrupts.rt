@@ -4,7 +4,7 @@ use crate::memory::IER;
 use crate::memory::IIR;
 ghost use mathlib.Core.Path.{_≡_};
 ghost use Prim.Native.Nat.{ℕ};
-ghost use Rattle.serial.specs.Interrupts.{Kind, receivedData, transmitterEmpty, ierStored, mark, unmark, isDue, iirRead};
+ghost use Rattle.serial.specs.Interrupts.{receivedData, transmitterEmpty, ierStored, mark, unmark, isDue, iirRead};
 ghost use Rattle.serial.specs.Inside.{Announces};
 
 // No interrupt is pending. A read of IIR leaves it so.

@@ -1,3 +1,4 @@
+-- Each answer is a law of `Registers`.
 -- Assumes nothing.
 use Rattle.serial.proofs.Registers.{begins}
 use borrow.Author.Needs.{needs}

@@ -1,3 +1,4 @@
+-- Each answer is a law of `Addressing` or `Reading`.
 -- Assumes nothing.
 use mathlib.Core.Path.{refl, sym, _∙_}
 use Rattle.serial.specs.Port.{addressed, readRegister}

@@ -1,3 +1,4 @@
+-- Each answer is a law of `Receiving`.
 -- Assumes nothing.
 use mathlib.Core.Path.{refl}
 use Rattle.serial.proofs.Receiving.{room-left}

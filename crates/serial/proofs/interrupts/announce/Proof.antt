@@ -1,3 +1,4 @@
+-- Each answer is a law of `Leaves`.
 -- Assumes nothing.
 use mathlib.Core.Path.{sym, _∙_}
 use Rattle.serial.proofs.Leaves.{due, not-due}

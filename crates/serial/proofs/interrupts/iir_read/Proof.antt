@@ -1,3 +1,5 @@
+-- The answer is the definition, opened.
+-- Assumes nothing.
 use mathlib.Core.Path.{refl}
 use Rattle.serial.specs.Interrupts.{iirRead}
 use Rattle.serial.proofs.interrupts.iir_read.Statement.{statement}

@@ -1,3 +1,5 @@
+-- The answer is the definition, opened.
+-- Assumes nothing.
 use mathlib.Core.Bool.{Bool·not-not}
 use borrow.Author.Tests.{eq-eqb, ne-eqb}
 use Rattle.serial.specs.Interrupts.{isDue}

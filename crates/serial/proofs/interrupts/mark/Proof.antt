@@ -1,3 +1,5 @@
+-- The answer is the definition, opened.
+-- Assumes nothing.
 use mathlib.Core.Path.{refl}
 use Rattle.serial.specs.Interrupts.{mark}
 use Rattle.serial.proofs.interrupts.mark.Statement.{statement}

@@ -1,3 +1,5 @@
+-- The answer is the definition, opened.
+-- Assumes nothing.
 use borrow.Author.Tests.{eq-eqb, ne-eqb}
 use Rattle.serial.specs.Interrupts.{unmark}
 use Rattle.serial.proofs.interrupts.unmark_received_data.Statement.{statement}

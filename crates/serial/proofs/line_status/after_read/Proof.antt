@@ -1,3 +1,4 @@
+-- Each answer is a law of `Leaves`.
 -- Assumes nothing.
 use Rattle.serial.proofs.Leaves.{none-left, some-left}
 use borrow.Author.Needs.{needs}

@@ -1,3 +1,5 @@
+-- The answer is the definition, opened.
+-- Assumes nothing.
 use mathlib.Core.Path.{refl}
 use Rattle.serial.specs.LineStatus.{lsrReady}
 use Rattle.serial.proofs.line_status.ready.Statement.{statement}

@@ -1,3 +1,5 @@
+-- The answer is the definition, opened.
+-- Assumes nothing.
 use mathlib.Core.Path.{refl}
 use Rattle.serial.specs.Modem.{isLoop}
 use Rattle.serial.proofs.modem.is_loop.Statement.{statement}

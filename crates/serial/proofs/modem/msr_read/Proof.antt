@@ -1,3 +1,4 @@
+-- The answer is the definition, opened.
 -- Assumes nothing.
 use mathlib.Core.Path.{sym, _∙_}
 use native.Mathlib.Omega.{arith}

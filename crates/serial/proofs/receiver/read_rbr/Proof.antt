@@ -1,3 +1,4 @@
+-- Each answer is a law of `Reading`.
 -- Assumes nothing.
 use mathlib.Core.Path.{_∙_}
 use Rattle.serial.specs.Layout.{portOf}

@@ -1,5 +1,6 @@
+-- The answer is put together from what the two rooms promise.
 -- Assumes nothing.
-use mathlib.Core.Path.{refl, _∙_}
+use mathlib.Core.Path.{refl}
 use borrow.Author.Needs.{needs}
 use Rattle.serial.proofs.receiver.receive.Statement.{statement}
 use Rattle.serial.proofs.receiver.receive.Tie as tie

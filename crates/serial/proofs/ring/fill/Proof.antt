@@ -1,3 +1,4 @@
+-- The loop's invariant and its laws are of `RingLaws`.
 -- Assumes nothing.
 use Prim.Native.Nat.{_-_}
 use Rattle.serial.specs.Layout.{capacity}

@@ -1,3 +1,4 @@
+-- Each answer is a law of `RingLaws`.
 -- Assumes nothing.
 use Rattle.serial.specs.Layout.{capacity}
 use Rattle.serial.proofs.RingLaws.{put-none, put-more}

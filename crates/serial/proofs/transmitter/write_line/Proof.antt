@@ -1,5 +1,5 @@
+-- Each answer is a law of `Sending`.
 -- Assumes nothing.
-use mathlib.Core.Path.{refl}
 use Rattle.serial.proofs.Sending.{line-sends}
 use borrow.Author.Needs.{needs}
 use Rattle.serial.proofs.transmitter.write_line.Statement.{statement}
