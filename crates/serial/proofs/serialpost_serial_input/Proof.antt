@@ -1,5 +1,6 @@
 -- Each answer is a law of `Receiving`.
 -- Assumes nothing.
+use native.Mathlib.Omega.{arith}
 use mathlib.Core.Path.{refl, sym, _∙_}
 use Rattle.serial.specs.Layout.{portOf}
 use Rattle.serial.proofs.Receiving.{line-cut, line-idle, line-full, line-receives}
@@ -19,14 +20,14 @@ returns c = let a = c .before .before .before .before .args in line-cut (a .regs
 
 returns-2 : tie.Need-returns-2
 unfolding portOf
-returns-2 c = let a = c .before .before .before .before .before .args in line-idle (a .regs .now) (a .pos .now) (a .ring .now) _ refl _ (sym (c .before .before .is-loop .ensures) ∙ c .before .if1 .left) (c .if2 .taken)
+returns-2 c = let a = c .before .before .before .before .before .args in line-idle (a .regs .now) (a .pos .now) (a .ring .now) _ refl _ (sym (c .before .before .is-loop .ensures) ∙ c .before .if1 .left) (omega arith)
 
 count-requires : tie.Need-count-requires
 count-requires c κs = search needs
 
 returns-3 : tie.Need-returns-3
 unfolding portOf
-returns-3 c = let a = c .before .before .before .before .before .before .before .before .args in line-full (a .regs .now) (a .pos .now) (a .ring .now) _ (c .before .count .ensures) _ (sym (c .before .before .before .before .before .is-loop .ensures) ∙ c .before .before .before .before .if1 .left) (c .before .before .before .if2 .left) (c .if3 .taken)
+returns-3 c = let a = c .before .before .before .before .before .before .before .before .args in line-full (a .regs .now) (a .pos .now) (a .ring .now) _ (c .before .count .ensures) _ (sym (c .before .before .before .before .before .is-loop .ensures) ∙ c .before .before .before .before .if1 .left) (c .before .before .before .if2 .left) (omega arith)
 
 nine-requires : tie.Need-nine-requires
 nine-requires c κs = search needs

@@ -1,6 +1,6 @@
 -- Each answer is a law of `Receiving`.
 -- Assumes nothing.
-use mathlib.Core.Path.{refl}
+use native.Mathlib.Omega.{arith}
 use Rattle.serial.proofs.Receiving.{room-left}
 use borrow.Author.Needs.{needs}
 use Rattle.serial.proofs.serialpost_serial_room.Statement.{statement}
@@ -13,7 +13,7 @@ sub-result : tie.Need-sub-result
 sub-result c = search needs
 
 returns : tie.Need-returns
-returns c = room-left _ _ _ (c .count .ensures) refl
+returns c = room-left _ _ _ (c .count .ensures) (omega arith)
 
 pub serialpost-serial-room-spec : {M : Type 1} → statement M
 serialpost-serial-room-spec = tie.close (tie.spec count-requires sub-result returns)

@@ -1,5 +1,6 @@
 -- Each answer is a law of `Leaves`.
 -- Assumes nothing.
+use native.Mathlib.Omega.{arith}
 use Rattle.serial.proofs.Leaves.{none-left, some-left}
 use borrow.Author.Needs.{needs}
 use Rattle.serial.proofs.line_status.after_read.Statement.{statement}
@@ -15,7 +16,7 @@ element-write-regs : tie.Need-element-write-regs
 element-write-regs c = search needs
 
 returns : tie.Need-returns
-returns c = none-left (c .before .before .before .before .args .regs .now) _ (c .before .before .before .if1 .taken)
+returns c = none-left (c .before .before .before .before .args .regs .now) _ (omega arith)
 
 returns-2 : tie.Need-returns-2
 returns-2 c = some-left _ _ (c .if1 .left)

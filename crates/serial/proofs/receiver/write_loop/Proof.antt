@@ -1,5 +1,6 @@
 -- Each answer is a law of `Receiving`.
 -- Assumes nothing.
+use native.Mathlib.Omega.{arith}
 use mathlib.Core.Path.{refl}
 use Rattle.serial.proofs.Receiving.{loop-drops, loop-receives}
 use borrow.Author.Needs.{needs}
@@ -10,7 +11,7 @@ count-requires : tie.Need-count-requires
 count-requires c κs = search needs
 
 returns : tie.Need-returns
-returns c = let a = c .before .before .before .args in loop-drops (a .regs .now) (a .pos .now) (a .ring .now) _ (c .before .count .ensures) _ (c .if1 .taken)
+returns c = let a = c .before .before .before .args in loop-drops (a .regs .now) (a .pos .now) (a .ring .now) _ (c .before .count .ensures) _ (omega arith)
 
 nine-requires : tie.Need-nine-requires
 nine-requires c κs = search needs

@@ -1,5 +1,6 @@
 -- Each answer is a law of `Sending`.
 -- Assumes nothing.
+use native.Mathlib.Omega.{arith}
 use Rattle.serial.proofs.Sending.{line-sends}
 use borrow.Author.Needs.{needs}
 use Rattle.serial.proofs.transmitter.write_line.Statement.{statement}
@@ -24,7 +25,7 @@ add-result-2 : tie.Need-add-result-2
 add-result-2 c = search needs
 
 returns : tie.Need-returns
-returns c = λ pos ring. line-sends (c .before .before .before .before .before .args .regs .now) pos ring (c .before .before .before .nine .ensures) _ (c .announce-transmitter-empty .ensures) (rw (c .before .before .wide .ensures))
+returns c = λ pos ring. line-sends (c .before .before .before .before .before .args .regs .now) pos ring (c .before .before .before .nine .ensures) _ (c .announce-transmitter-empty .ensures) (omega (arith, c .before .before .wide .ensures))
 
 pub write-line-spec : {M : Type 1} → statement M
 write-line-spec =
