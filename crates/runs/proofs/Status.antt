@@ -27,7 +27,7 @@ some-more (x ∷ q) l e = refl
 true-after-read : (q : List ℕ) (lsr : ℕ) → noneLeft (length q) ≡ true → on (lsrAfterRead (tail q) lsr) 0x01 ≡ some (tail q)
 true-after-read [] lsr e = ready-cleared lsr
 true-after-read (x ∷ []) lsr e = ready-cleared lsr
-true-after-read (x ∷ y ∷ q) lsr e = absurd (omega (arith, leb-true (length (x ∷ y ∷ q)) 1 e))
+true-after-read (x ∷ y ∷ q) lsr e = absurd (omega (arith, leb-true))
 
 true-after : {p q : Port} {a d : List ℕ} {t : Bool} {n : ℕ} → Effect p q a t d n → (some a || (t && noneLeft (length (p .waiting)))) ≡ true → Truthful q
 true-after (keeps s m) h = absurd (false≢true h)

@@ -55,8 +55,8 @@ pub record Untold (p : Port) : Type 0 where
   pub unmarked : marked p receiver ≡ false
 
 -- The operations after which that can be so though it was not so before: the identification register is read and the bytes stay; a byte is read and
--- others stay; the enable register is written while bytes wait. The manual's chip has none of them: DIFFERENCES, "serial-forgotten-data" and
--- "serial-quiet-enable".
+-- others stay; the enable register is written while bytes wait. By the manual received data stays pending while a byte waits, and is signalled as soon as
+-- it is enabled: DIFFERENCES, "serial-forgotten-data" and "serial-quiet-enable".
 pub data Hole (p : Port) : Op → Type 0 where
   identified : Hole p (read 2)
   read-one : 2 ≤ length (p .waiting) → Hole p (read 0)

@@ -29,7 +29,7 @@ shared-slice-read-kind c = search needs
 
 returns-2 : tie.Need-returns-2 Inv-loop μ-loop
 returns-2 c =
-    scanned-kind _ _ _ _ (c .before .before .before .loop .inv) (c .before .before .before .before .if1 .left) (c .before .before .loop-test .taken) (c .if2 .taken)
+    scanned-kind _ _ _ _ (c .before .before .before .loop .inv) (c .before .before .before .before .if1 .left) (c .before .before .loop-test .taken) (omega (arith, c .if2 .taken))
 
 add-input-bytes : tie.Need-add-input-bytes Inv-loop μ-loop
 add-input-bytes c = search needs
@@ -66,7 +66,7 @@ loop-less c = omega (arith, whole-here (c .before .before .before .before .befor
 loop-again : tie.Need-loop-again Inv-loop μ-loop
 loop-again c =
     rw (c .before .input-bytes .ensures)
-    (scanned-more _ _ _ _ (c .before .before .before .before .before .before .before .loop .inv) (c .before .before .before .before .before .before .before .before .if1 .left) (c .before .before .before .before .before .before .loop-test .taken) (c .before .before .before .before .if2 .left)
+    (scanned-more _ _ _ _ (c .before .before .before .before .before .before .before .loop .inv) (c .before .before .before .before .before .before .before .before .if1 .left) (c .before .before .before .before .before .before .loop-test .taken) (omega (arith, c .before .before .before .before .if2 .left))
     (rw (c .before .input-bytes .ensures) at (c .if3 .left)))
 
 returns-4 : tie.Need-returns-4 Inv-loop μ-loop

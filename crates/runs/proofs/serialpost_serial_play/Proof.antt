@@ -37,7 +37,7 @@ returns c =
     refuses-no-run _ _ _ _ _ _ (sym (c .before .is-run .ensures) ∙ not-true _ (c .if1 .taken))
 
 returns-2 : tie.Need-returns-2 Inv-loop μ-loop
-returns-2 c = refuses-too-many _ _ _ _ _ _ (c .if2 .taken)
+returns-2 c = let g = c .before .before .before .before .before .before .args in refuses-too-many _ _ _ (g .ops .now) (g .inputs .now) (g .answers .now) (omega (arith, c .if2 .taken))
 
 loop-holds : tie.Need-loop-holds Inv-loop μ-loop
 loop-holds c =
