@@ -1,8 +1,9 @@
 // The current device, and the line that is handed to it.
-use crate::clock_lines;
 use crate::cut::Kind;
-use crate::reset_lines;
-use clock::serialpost_clock_init;
+use clock_lines::Clock;
+use serial_lines::Pos;
+use serial_lines::Regs;
+use serial_lines::Ring;
 use words::Block;
 use words::pattern::fits;
 use words::put::put;
@@ -11,20 +12,11 @@ ghost use Prim.Native.Nat.{_+_, _≤_, _<_};
 ghost use mathlib.Core.Path.{_≡_};
 ghost use lib.ListN.{length};
 
-// The state of each device, which the caller lends: the clock's, and the serial port's registers,
-// the place of its waiting bytes, and these.
-pub type Clock = [u32; 6];
-
-pub type Regs = [u8; 9];
-
-pub type Pos = [u32; 2];
-
-pub type Ring = [u8; 64];
-
 pub enum Device {
     Nothing,
     Reset,
     Clock,
+    Serial,
 }
 
 // The device after a line, and how much of `out` is used.
@@ -68,11 +60,17 @@ pub fn answer(
         };
     }
     if fits(line, b"clock") {
-        serialpost_clock_init(clock);
-        *time = 0;
+        clock_lines::begin(clock, time);
         return Said {
             device: Device::Clock,
             put: put(out, at, b"clock\n"),
+        };
+    }
+    if fits(line, b"serial") {
+        serial_lines::begin(regs, pos);
+        return Said {
+            device: Device::Serial,
+            put: put(out, at, b"serial\n"),
         };
     }
     match device {
@@ -87,6 +85,10 @@ pub fn answer(
         Device::Clock => Said {
             device,
             put: clock_lines::answer(line, clock, time, out, at),
+        },
+        Device::Serial => Said {
+            device,
+            put: serial_lines::answer(line, regs, pos, ring, out, at),
         },
     }
 }

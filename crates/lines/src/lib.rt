@@ -4,16 +4,14 @@
 // the state is `full`, it calls `settle` and reads into `held` behind its first `end` bytes, and
 // says so by `came`, or, at the end of the input, by `close`. Then it calls `answer`. Nothing here
 // reads or writes a file.
-mod clock_lines;
 mod cut;
-pub mod devices;
-mod reset_lines;
+mod devices;
 
-use devices::Clock;
+use clock_lines::Clock;
 use devices::Device;
-use devices::Pos;
-use devices::Regs;
-use devices::Ring;
+use serial_lines::Pos;
+use serial_lines::Regs;
+use serial_lines::Ring;
 use words::Block;
 ghost use Prim.Native.Nat.{_+_, _-_, _≤_, _<_};
 ghost use mathlib.Core.Path.{_≡_};

@@ -2,14 +2,14 @@
 //
 // There is no exit status to tell a failure by: a run that failed says so in one line on standard
 // error, and a run that did not writes nothing there.
+use clock_lines::Clock;
 use libc::STDERR_FILENO;
 use libc::STDIN_FILENO;
 use libc::STDOUT_FILENO;
 use lines::State;
-use lines::devices::Clock;
-use lines::devices::Pos;
-use lines::devices::Regs;
-use lines::devices::Ring;
+use serial_lines::Pos;
+use serial_lines::Regs;
+use serial_lines::Ring;
 use words::Block;
 ghost use Prim.Native.Nat.{_+_, _≤_};
 ghost use mathlib.Core.Path.{_≡_};

@@ -4,6 +4,8 @@ use mathlib.Core.Bool.{cond}
 use mathlib.Core.List.{List, [], _∷_, _++_}
 use lib.ListN.{getD}
 use lib.Dec.{ltb, leb}
+use Rattle.words.specs.declared.hex.Bytes.{Bytes}
+use Rattle.words.specs.declared.hex.Bytes.the-variants.{Are, Bad}
 
 -- The value of a digit: `0` to `9` are the characters 48 to 57, `a` to `f` 97 to 102. Of any other character 16.
 unfoldable pub valueOf : ℕ → ℕ
@@ -16,6 +18,11 @@ byteOf high low = valueOf high % 16 * 16 + valueOf low % 16
 -- The byte of the two digits of a line at a place.
 unfoldable pub byteAt : List ℕ → ℕ → ℕ
 byteAt line i = byteOf (getD line i 0) (getD line (i + 1) 0)
+
+-- How many bytes digits make.
+unfoldable pub countOf : Bytes → ℕ
+countOf (Are n) = n
+countOf Bad = 0
 
 -- The digit of a value below 16.
 unfoldable pub digitOf : ℕ → ℕ

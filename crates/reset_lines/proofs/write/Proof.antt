@@ -1,7 +1,7 @@
 use mathlib.Core.Path.{sym, _∙_}
 use borrow.Author.Needs.{needs}
-use Rattle.lines.proofs.reset_lines.write.Statement.{statement}
-use Rattle.lines.proofs.reset_lines.write.Tie as tie
+use Rattle.reset_lines.proofs.write.Statement.{statement}
+use Rattle.reset_lines.proofs.write.Tie as tie
 
 serialpost-i8042-write-requires : tie.Need-serialpost-i8042-write-requires
 serialpost-i8042-write-requires c κs = search needs

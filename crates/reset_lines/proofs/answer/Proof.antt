@@ -1,8 +1,8 @@
 use mathlib.Core.Path.{sym, _∙_}
-use Rattle.lines.specs.Reset.{resetAnswer}
+use Rattle.reset_lines.specs.Reset.{resetAnswer}
 use borrow.Author.Needs.{needs}
-use Rattle.lines.proofs.reset_lines.answer.Statement.{statement}
-use Rattle.lines.proofs.reset_lines.answer.Tie as tie
+use Rattle.reset_lines.proofs.answer.Statement.{statement}
+use Rattle.reset_lines.proofs.answer.Tie as tie
 
 slice-aggregate-fits : tie.Need-slice-aggregate-fits
 slice-aggregate-fits c = search needs

@@ -1,5 +1,5 @@
 // The lines of the clock.
-use crate::devices::Clock;
+use clock::serialpost_clock_init;
 use clock::serialpost_clock_read;
 use clock::serialpost_clock_write;
 use words::Block;
@@ -13,6 +13,15 @@ use words::put::put_byte;
 use words::put::put_word;
 use words::put::unknown;
 ghost use Prim.Native.Nat.{_+_, _≤_};
+
+// The clock's state, which the caller lends.
+pub type Clock = [u32; 6];
+
+// Makes the clock a fresh one, at the time 0.
+pub fn begin(clock: &mut Clock, time: &mut u64) {
+    serialpost_clock_init(clock);
+    *time = 0;
+}
 
 pub fn answer(line: &[u8], clock: &mut Clock, time: &mut u64, out: &mut Block, at: usize) -> usize
     requires { ⌜ at + 4096 ≤ 65536 ⌝ }

@@ -1,7 +1,7 @@
 use Rattle.words.proofs.Putting.{both}
 use borrow.Author.Needs.{needs}
-use Rattle.lines.proofs.reset_lines.read.Statement.{statement}
-use Rattle.lines.proofs.reset_lines.read.Tie as tie
+use Rattle.reset_lines.proofs.read.Statement.{statement}
+use Rattle.reset_lines.proofs.read.Tie as tie
 
 slice-aggregate-put : tie.Need-slice-aggregate-put
 slice-aggregate-put c = search needs

@@ -9,7 +9,7 @@ use words::put::put_byte;
 use words::put::unknown;
 ghost use Prim.Native.Nat.{_+_, _≤_};
 ghost use Rattle.words.specs.Put.{Puts};
-ghost use Rattle.lines.specs.Reset.{resetAnswer, writeAnswer, readAnswer};
+ghost use Rattle.reset_lines.specs.Reset.{resetAnswer, writeAnswer, readAnswer};
 
 pub fn answer(line: &[u8], out: &mut Block, at: usize) -> usize
     requires { ⌜ at + 4096 ≤ 65536 ⌝ }

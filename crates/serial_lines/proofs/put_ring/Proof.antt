@@ -1,0 +1,52 @@
+use Prim.Native.Nat.{_+_, _-_, _≤_, _<_}
+use mathlib.Core.Path.{_≡_}
+use borrow.Author.Needs.{needs}
+use native.Mathlib.Omega.{arith}
+use lib.ListN.{length}
+use Rattle.serial_lines.proofs.put_ring.Statement.{statement}
+use Rattle.serial_lines.proofs.put_ring.Tie as tie
+
+abbrev Inv-loop : tie.InvT-loop
+Inv-loop out₀ at start count ring i₀ next₀ out i next = (i ≤ count) × (next ≡ at + i + i)
+
+abbrev μ-loop : tie.MeasureT-loop
+μ-loop out₀ at start count ring i₀ next₀ out i next = count - i
+
+loop-holds : tie.Need-loop-holds Inv-loop μ-loop
+loop-holds c = search needs
+
+add-put-byte : tie.Need-add-put-byte Inv-loop μ-loop
+add-put-byte c = search needs
+
+element-copy-out-put-byte : tie.Need-element-copy-out-put-byte Inv-loop μ-loop
+element-copy-out-put-byte c = search needs
+
+put-byte-requires : tie.Need-put-byte-requires Inv-loop μ-loop
+put-byte-requires c κs = search needs
+
+add-i : tie.Need-add-i Inv-loop μ-loop
+add-i c = search needs
+
+loop-less : tie.Need-loop-less Inv-loop μ-loop
+loop-less c = search needs
+
+loop-again : tie.Need-loop-again Inv-loop μ-loop
+loop-again c = search needs
+
+returns : tie.Need-returns Inv-loop μ-loop
+returns c = search needs
+
+pub put-ring-spec : {M : Type 1} → statement M
+put-ring-spec =
+    tie.close
+    (tie.spec
+    Inv-loop
+    μ-loop
+    loop-holds
+    add-put-byte
+    element-copy-out-put-byte
+    put-byte-requires
+    add-i
+    loop-less
+    loop-again
+    returns)

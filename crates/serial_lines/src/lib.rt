@@ -1,0 +1,261 @@
+// The lines of the serial port.
+use serial::serialpost_serial_init;
+use serial::serialpost_serial_input;
+use serial::serialpost_serial_read;
+use serial::serialpost_serial_room;
+use serial::serialpost_serial_write;
+use words::Block;
+use words::decimal::put_decimal;
+use words::hex::Bytes;
+use words::hex::byte_at;
+use words::hex::bytes_from;
+use words::pattern::begins;
+use words::pattern::fits;
+use words::put::put;
+use words::put::put_byte;
+use words::put::unknown;
+ghost use Prim.Native.Nat.{_+_, _≤_, _<_};
+ghost use mathlib.Core.Path.{_≡_};
+
+// The serial port's state, which the caller lends: its registers, where its waiting bytes start and
+// how many there are, and they.
+pub type Regs = [u8; 9];
+
+pub type Pos = [u32; 2];
+
+pub type Ring = [u8; 64];
+
+// As many bytes may wait.
+const CAPACITY: usize = 64;
+
+// Makes the serial port a fresh one.
+pub fn begin(regs: &mut Regs, pos: &mut Pos) {
+    serialpost_serial_init(regs, pos);
+}
+
+pub fn answer(
+    line: &[u8],
+    regs: &mut Regs,
+    pos: &mut Pos,
+    ring: &mut Ring,
+    out: &mut Block,
+    at: usize,
+) -> usize
+    requires { ⌜ at + 4096 ≤ 65536 ⌝ }
+    ensures { λ r. ⌜ r ≤ at + 4096 ⌝ }
+{
+    if fits(line, b"w OO VV") {
+        return write(regs, pos, ring, byte_at(line, 2), byte_at(line, 5), out, at);
+    }
+    if fits(line, b"r OO") {
+        return read(regs, pos, ring, byte_at(line, 2), out, at);
+    }
+    if fits(line, b"b") {
+        return input(regs, pos, ring, b"", out, at);
+    }
+    if begins(line, b"b ") {
+        return input_of(line, regs, pos, ring, out, at);
+    }
+    if fits(line, b"room") {
+        return room(pos, out, at);
+    }
+    if fits(line, b"state") {
+        return state(regs, pos, ring, out, at);
+    }
+    unknown(out, at)
+}
+
+fn write(
+    regs: &mut Regs,
+    pos: &mut Pos,
+    ring: &mut Ring,
+    offset: u8,
+    value: u8,
+    out: &mut Block,
+    at: usize,
+) -> usize
+    requires { ⌜ at + 4096 ≤ 65536 ⌝ }
+    ensures { λ r. ⌜ r ≤ at + 4096 ⌝ }
+{
+    let does = serialpost_serial_write(regs, pos, ring, offset, value);
+    let a = put(out, at, b"w ");
+    let b = put_sent(out, a, does % 512);
+    put_raises(out, b, does / 512)
+}
+
+fn read(
+    regs: &mut Regs,
+    pos: &mut Pos,
+    ring: &Ring,
+    offset: u8,
+    out: &mut Block,
+    at: usize,
+) -> usize
+    requires { ⌜ at + 4096 ≤ 65536 ⌝ }
+    ensures { λ r. ⌜ r ≤ at + 4096 ⌝ }
+{
+    let reply = serialpost_serial_read(regs, pos, ring, offset);
+    let a = put(out, at, b"r ");
+    let b = put_byte(out, a, (reply % 256) as u8);
+    put_raises(out, b, reply / 512)
+}
+
+// The byte that was sent, behind 256, or a number below that for none.
+fn put_sent(out: &mut Block, at: usize, sent: u32) -> usize
+    requires { ⌜ at + 2 ≤ 65536 ⌝ }
+    ensures { λ r. ⌜ r ≤ at + 2 ⌝ }
+{
+    if sent < 256 {
+        return put(out, at, b"--");
+    }
+    put_byte(out, at, (sent % 256) as u8)
+}
+
+// Ends an answer with the number of interrupts that were raised.
+fn put_raises(out: &mut Block, at: usize, raises: u32) -> usize
+    requires { ⌜ at + 22 ≤ 65536 ⌝ }
+    ensures { λ r. ⌜ r ≤ at + 22 ⌝ }
+{
+    let a = put(out, at, b" ");
+    let b = put_decimal(out, a, raises);
+    put(out, b, b"\n")
+}
+
+// `b HH..`, with one byte or more.
+fn input_of(
+    line: &[u8],
+    regs: &mut Regs,
+    pos: &mut Pos,
+    ring: &mut Ring,
+    out: &mut Block,
+    at: usize,
+) -> usize
+    requires { ⌜ at + 4096 ≤ 65536 ⌝ }
+    ensures { λ r. ⌜ r ≤ at + 4096 ⌝ }
+{
+    let mut bytes = io::buffer();
+    let Bytes::Are(count) = bytes_from(line, 2, &mut bytes) else {
+        return unknown(out, at);
+    };
+    input(regs, pos, ring, &bytes[..count], out, at)
+}
+
+fn input(
+    regs: &mut Regs,
+    pos: &mut Pos,
+    ring: &mut Ring,
+    bytes: &[u8],
+    out: &mut Block,
+    at: usize,
+) -> usize
+    requires { ⌜ at + 4096 ≤ 65536 ⌝ }
+    ensures { λ r. ⌜ r ≤ at + 4096 ⌝ }
+{
+    let took = serialpost_serial_input(regs, pos, ring, bytes);
+    let a = put(out, at, b"b ");
+    let b = put_taken(out, a, took % 0x2_0000);
+    put_raises(out, b, took / 0x2_0000)
+}
+
+// How many bytes were taken, or a number from 0x1_0000 on for a full buffer.
+fn put_taken(out: &mut Block, at: usize, taken: u32) -> usize
+    requires { ⌜ at + 20 ≤ 65536 ⌝ }
+    ensures { λ r. ⌜ r ≤ at + 20 ⌝ }
+{
+    if taken < 0x1_0000 {
+        return put_decimal(out, at, taken);
+    }
+    put(out, at, b"full")
+}
+
+fn room(pos: &Pos, out: &mut Block, at: usize) -> usize
+    requires { ⌜ at + 4096 ≤ 65536 ⌝ }
+    ensures { λ r. ⌜ r ≤ at + 4096 ⌝ }
+{
+    let a = put(out, at, b"room ");
+    let b = put_decimal(out, a, serialpost_serial_room(pos));
+    put(out, b, b"\n")
+}
+
+fn state(regs: &Regs, pos: &Pos, ring: &Ring, out: &mut Block, at: usize) -> usize
+    requires { ⌜ at + 4096 ≤ 65536 ⌝ }
+    ensures { λ r. ⌜ r ≤ at + 4096 ⌝ }
+{
+    let a = put(out, at, b"state");
+    let b = put_regs(out, a, regs);
+    put_waiting(out, b, wide(pos[0]) % CAPACITY, capped(pos[1]), ring)
+}
+
+// The divisor's two bytes, IER, IIR, LCR, LSR, MCR, MSR and SCR.
+fn put_regs(out: &mut Block, at: usize, regs: &Regs) -> usize
+    requires { ⌜ at + 27 ≤ 65536 ⌝ }
+    ensures { λ r. ⌜ r ≤ at + 27 ⌝ }
+{
+    let a = put_next(out, at, regs[0]);
+    let b = put_next(out, a, regs[8]);
+    let c = put_next(out, b, regs[1]);
+    let d = put_next(out, c, regs[2]);
+    let e = put_next(out, d, regs[3]);
+    let f = put_next(out, e, regs[5]);
+    let g = put_next(out, f, regs[4]);
+    let h = put_next(out, g, regs[6]);
+    put_next(out, h, regs[7])
+}
+
+// Puts a space and the digits of a byte.
+fn put_next(out: &mut Block, at: usize, byte: u8) -> usize
+    requires { ⌜ at + 3 ≤ 65536 ⌝ }
+    ensures { λ r. ⌜ r ≤ at + 3 ⌝ }
+{
+    let a = put(out, at, b" ");
+    put_byte(out, a, byte)
+}
+
+// Ends an answer with the bytes that wait: their number, and they in order from `start` on, or `-`.
+fn put_waiting(out: &mut Block, at: usize, start: usize, count: u32, ring: &Ring) -> usize
+    requires { ⌜ at + 256 ≤ 65536 ⌝ }
+    requires { ⌜ start < 64 ⌝ }
+    requires { ⌜ count ≤ 64 ⌝ }
+    ensures { λ r. ⌜ r ≤ at + 256 ⌝ }
+{
+    let a = put(out, at, b" ");
+    let b = put_decimal(out, a, count);
+    if count == 0 {
+        return put(out, b, b" -\n");
+    }
+    let c = put(out, b, b" ");
+    let d = put_ring(out, c, start, wide(count), ring);
+    put(out, d, b"\n")
+}
+
+// Puts the digits of `count` bytes of a ring from `start` on.
+fn put_ring(out: &mut Block, at: usize, start: usize, count: usize, ring: &Ring) -> usize
+    requires { ⌜ at + 128 ≤ 65536 ⌝ }
+    requires { ⌜ start < 64 ⌝ }
+    requires { ⌜ count ≤ 64 ⌝ }
+    ensures { λ r. ⌜ r ≤ at + 128 ⌝ }
+{
+    let mut i = 0;
+    let mut next = at;
+    while i < count {
+        next = put_byte(out, next, ring[(start + i) % CAPACITY]);
+        i += 1;
+    }
+    next
+}
+
+// No more than `CAPACITY` bytes wait, whatever the count says.
+fn capped(count: u32) -> u32
+    ensures { λ r. ⌜ r ≤ 64 ⌝ }
+{
+    if count < CAPACITY as u32 {
+        return count;
+    }
+    CAPACITY as u32
+}
+
+fn wide(x: u32) -> usize
+    ensures { λ r. ⌜ r ≡ x ⌝ }
+{
+    x as usize
+}
