@@ -2,7 +2,7 @@
 LIST ?= lists/story.list
 N ?= 10000000
 SEED ?= 1
-DEVICES = i8042 clock
+DEVICES = i8042 clock serial
 REPLAY = target/bin/replay
 
 .PHONY: help replay test lists long speed $(REPLAY)
