@@ -12,11 +12,8 @@ pub fn msr_read(mcr: u8, msr: u8) -> u8
     ensures { λ r. ⌜ r ≡ msrRead mcr msr ⌝ }
 {
     if is_loop(mcr) {
-        return msr % 0x10
-            + mcr / 2 % 2 * 0x10
-            + mcr % 2 * 0x20
-            + mcr / 4 % 2 * 0x40
-            + mcr / 8 % 2 * 0x80;
+        let lines = ((mcr & 0x02) << 3) | ((mcr & 0x01) << 5) | ((mcr & 0x0c) << 4);
+        return (msr & 0x0f) | lines;
     }
     msr
 }
