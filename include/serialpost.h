@@ -1,0 +1,136 @@
+/*
+ * Serialpost: a 16550 serial port, a PL031 clock, and the corner of an i8042 that resets the machine.
+ * Link libserialpost.a. The functions declared here are the proved ones themselves, with nothing in between.
+ *
+ * A device's state is memory that you own. No call allocates, waits, does I/O or keeps anything elsewhere, and
+ * none needs another before it: any bytes are some state, any argument is answered. A call that refuses says so
+ * in its answer and changes nothing. What a call wants done (a byte sent, an interrupt raised, a reset) is in
+ * its answer, and you do it.
+ *
+ * C cannot check these, so they are yours to keep:
+ * - a pointer is not null, not even `input` where `length` is 0; it is aligned for its type, and points to as
+ *   many elements as are shown here;
+ * - `input` points to `length` bytes;
+ * - what one call is lent does not overlap: the state's parts, `bytes` and `input` lie apart;
+ * - nothing else touches what a call is lent while it runs. Two states may be used at the same time.
+ */
+#ifndef SERIALPOST_H
+#define SERIALPOST_H
+
+#include <stdbool.h>
+#include <stddef.h>
+#include <stdint.h>
+
+#ifdef __cplusplus
+extern "C" {
+#endif
+
+/* ---- Serial port: a 16550 with 64 bytes of input. */
+
+#define SERIALPOST_SERIAL_CAPACITY 64
+
+/* Offsets of the registers. RBR is what offset 0 reads and THR what it writes; while LCR 0x80 is set, offsets 0
+ * and 1 are the divisor's two bytes. */
+enum {
+    SERIALPOST_RBR = 0,
+    SERIALPOST_THR = 0,
+    SERIALPOST_IER = 1,
+    SERIALPOST_IIR = 2,
+    SERIALPOST_LCR = 3,
+    SERIALPOST_MCR = 4,
+    SERIALPOST_LSR = 5,
+    SERIALPOST_MSR = 6,
+    SERIALPOST_SCR = 7
+};
+
+/* pos: where the first waiting byte lies in the ring, counted modulo 64, and how many wait; a number above 64
+ * counts as 64. regs: each register at its offset, the divisor's low byte at 0 and its high byte at 8. */
+struct serialpost_serial {
+    uint32_t pos[2];
+    uint8_t regs[9];
+    uint8_t ring[SERIALPOST_SERIAL_CAPACITY];
+};
+
+/* The three parts of a port, as the calls take them: serialpost_serial_read(SERIALPOST_PARTS(&port), offset). */
+#define SERIALPOST_PARTS(port) (port)->regs, (port)->pos, (port)->ring
+
+/* Makes a fresh port of any memory. The ring may hold anything. Refuses nothing. */
+void serialpost_serial_init(uint8_t regs[9], uint32_t pos[2]);
+
+/* The guest reads at `offset`. Answers the reply, and how often to raise the interrupt: today no read raises it.
+ * An offset that has no register, 8 and up, is refused: the reply is 0. */
+uint32_t serialpost_serial_read(uint8_t regs[9], uint32_t pos[2], const uint8_t ring[64], uint8_t offset);
+
+/* The guest writes `value` at `offset`. Answers the byte to send, if any, and how often to raise the interrupt.
+ * Send first. An offset that has nothing to write, 2, 5, 6, 8 and up, is refused, and so is a byte for the ring
+ * in loopback while 64 wait: the answer is 0. */
+uint32_t serialpost_serial_write(uint8_t regs[9], uint32_t pos[2], uint8_t ring[64], uint8_t offset, uint8_t value);
+
+/* `length` bytes come from your side of the line. Answers how many of them, from the first on, are taken; whether
+ * the port is full; and how often to raise the interrupt. Refused: any bytes while 64 wait, which answers "full",
+ * and any bytes in loopback, which answers 0. Offer what was not taken again. */
+uint32_t serialpost_serial_input(uint8_t regs[9], uint32_t pos[2], uint8_t ring[64], const uint8_t *input, size_t length);
+
+/* Answers how many bytes an input could put into the ring: 0 to 64. Refuses nothing. */
+uint32_t serialpost_serial_room(const uint32_t pos[2]);
+
+/* The answer to a read or a write, taken apart. */
+#define SERIALPOST_REPLY(answer) ((uint8_t)((answer) & 0xff))
+#define SERIALPOST_SENDS(answer) (((answer) & 0x100) != 0)
+#define SERIALPOST_BYTE(answer) ((uint8_t)((answer) & 0xff))
+#define SERIALPOST_RAISES(answer) ((uint32_t)(answer) >> 9)
+
+/* The answer to an input, taken apart. */
+#define SERIALPOST_TAKEN(answer) ((size_t)((answer) & 0xffff))
+#define SERIALPOST_FULL(answer) (((answer) & 0x10000) != 0)
+#define SERIALPOST_INPUT_RAISES(answer) ((uint32_t)(answer) >> 17)
+
+/* ---- Clock: a PL031. Registers are four bytes, the lowest first. */
+
+/* Offsets of the registers; the identification registers lie from 0xfe0 to 0xfff. */
+enum {
+    SERIALPOST_RTCDR = 0x000,
+    SERIALPOST_RTCMR = 0x004,
+    SERIALPOST_RTCLR = 0x008,
+    SERIALPOST_RTCCR = 0x00c,
+    SERIALPOST_RTCIMSC = 0x010,
+    SERIALPOST_RTCRIS = 0x014,
+    SERIALPOST_RTCMIS = 0x018,
+    SERIALPOST_RTCICR = 0x01c
+};
+
+/* The offset is how many seconds the clock is ahead of `time`, signed, 64 bits in two halves. */
+struct serialpost_clock {
+    uint32_t load;
+    uint32_t match;
+    uint32_t mask;
+    uint32_t raw_status;
+    uint32_t offset_low;
+    uint32_t offset_high;
+};
+
+/* Makes a fresh clock of any memory. Refuses nothing. */
+void serialpost_clock_init(struct serialpost_clock *clock);
+
+/* The guest reads the register at `offset` while your clock says `time` seconds, which count modulo 2^32. Answers
+ * true and puts the value into `bytes`. An offset with no register to read is refused: false, and `bytes` stay. */
+bool serialpost_clock_read(const struct serialpost_clock *clock, uint16_t offset, uint64_t time, uint8_t bytes[4]);
+
+/* The guest writes `bytes` to the register at `offset` while your clock says `time` seconds. Answers true. An
+ * offset with no register to write is refused: false, and the clock stays. */
+bool serialpost_clock_write(struct serialpost_clock *clock, uint16_t offset, uint64_t time, const uint8_t bytes[4]);
+
+/* ---- Reset controller: of an i8042, the command that resets the machine. It has no state. */
+
+/* The guest reads at `offset`, counted from port 0x60. Answers 0. Refuses nothing. */
+uint8_t serialpost_i8042_read(uint8_t offset);
+
+/* The guest writes `value` at `offset`. Answers whether the machine is to be reset. Any other write than 0xfe at
+ * offset 4 is refused: false. */
+bool serialpost_i8042_write(uint8_t offset, uint8_t value);
+
+#ifdef __cplusplus
+}
+#endif
+
+#endif
