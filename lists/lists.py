@@ -4,8 +4,8 @@
     lists.py tell REPLAY FILE       print each access beside what REPLAY answers
     lists.py check REPLAY FILE...   hold what REPLAY answers to the answers in each FILE
 
-A line of a list is `access => answer`, or `access => answer | manual: answer` where the chip's manual would answer otherwise.
-Empty lines and lines that begin with `#` are for the reader. REPLAY is a program that speaks the replay format
+A line of a list is `access => answer`, or `access => answer | manual: answer` where the chip's manual would answer otherwise; `tell` takes
+a plain `access` too. Empty lines and lines that begin with `#` are for the reader. REPLAY is a program that speaks the replay format
 (docs/REPLAY.md). Exit status: 0 all as told, 1 some answer differs, 2 a list or REPLAY cannot be used.
 """
 import subprocess
@@ -17,21 +17,19 @@ class Trouble(Exception):
 
 
 def parsed(path):
-    """The lines of a list as (text, access, answer); access and answer are None for a reader's line."""
+    """The lines of a list as (text, access, answer); access is None for a reader's line, answer where none is told."""
     try:
         with open(path, encoding="ascii") as file:
             lines = file.read().splitlines()
     except (OSError, UnicodeDecodeError) as error:
         raise Trouble(f"{path}: {error}")
     rows = []
-    for number, line in enumerate(lines, 1):
+    for line in lines:
         if not line or line.startswith("#"):
             rows.append((line, None, None))
             continue
         access, arrow, rest = line.partition("=>")
-        if not arrow:
-            raise Trouble(f"{path}:{number}: no `=>` between access and answer")
-        rows.append((line, access.strip(), rest.partition("|")[0].strip()))
+        rows.append((line, access.strip(), rest.partition("|")[0].strip() if arrow else None))
     return rows
 
 
@@ -60,6 +58,9 @@ def tell(replay, path):
 def check(replay, path):
     """1 where an answer differs from the told one, with the first such line; else 0."""
     rows = parsed(path)
+    for number, (_, access, told) in enumerate(rows, 1):
+        if access is not None and told is None:
+            raise Trouble(f"{path}:{number}: no `=>` between access and answer")
     answers = iter(answered(replay, rows))
     for number, (_, access, told) in enumerate(rows, 1):
         if access is None:

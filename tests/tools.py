@@ -57,6 +57,11 @@ def is_a_line_without_an_answer_trouble():
     return lists_status("i8042\\n", "i8042\n") == 2
 
 
+def is_a_plain_access_told():
+    with tempfile.TemporaryDirectory() as folder:
+        return status(*LISTS, "tell", script(folder, "i8042\\n"), written(folder, "i8042\n")) == 0
+
+
 def is_a_missing_list_trouble():
     with tempfile.TemporaryDirectory() as folder:
         return status(*LISTS, "check", script(folder, ""), os.path.join(folder, "none.list")) == 2
@@ -143,6 +148,7 @@ TESTS = [
     does_one_wrong_answer_fail,
     is_an_answer_too_few_trouble,
     is_a_line_without_an_answer_trouble,
+    is_a_plain_access_told,
     is_a_missing_list_trouble,
     is_a_missing_program_trouble,
     does_the_gate_count_a_stage,
