@@ -13,19 +13,30 @@ use words::put::put_byte;
 use words::put::put_word;
 use words::put::unknown;
 ghost use Prim.Native.Nat.{_+_, _≤_};
+ghost use mathlib.Core.Path.{_≡_};
+ghost use mathlib.Core.List.{_++_};
+ghost use Rattle.clock.specs.Bytes.{valueOf};
+ghost use Rattle.clock.specs.Registers.{readOf, writeOf, fresh};
+ghost use Rattle.clock.specs.Layout.{clockOf};
+ghost use Rattle.words.specs.Hex.{wordDigits};
+ghost use Rattle.words.specs.Put.{Puts};
+ghost use Rattle.words.specs.Text.{text};
+ghost use Rattle.clock_lines.specs.Answers.{Answers, Wrote, asks, offsetIn, bytesIn, fourDigits, readSays, stateSays};
 
 // The clock's state, which the caller lends.
 pub type Clock = [u32; 6];
 
 // Makes the clock a fresh one, at the time 0.
-pub fn begin(clock: &mut Clock, time: &mut u64) {
+pub fn begin(clock: &mut Clock, time: &mut u64)
+    ensures { λ r. ⌜ (clockOf (now (clock .exit)) ≡ fresh) × (now (time .exit) ≡ 0) ⌝ }
+{
     serialpost_clock_init(clock);
     *time = 0;
 }
 
 pub fn answer(line: &[u8], clock: &mut Clock, time: &mut u64, out: &mut Block, at: usize) -> usize
     requires { ⌜ at + 4096 ≤ 65536 ⌝ }
-    ensures { λ r. ⌜ r ≤ at + 4096 ⌝ }
+    ensures { λ r. ⌜ Answers (asks (now (line .entry))) (now (clock .entry)) (now (time .entry)) (now (out .entry)) at (now (clock .exit)) (now (time .exit)) (now (out .exit)) r ⌝ }
 {
     if fits(line, b"r OOOO BBBBBBBB") {
         return read(clock, offset_in(line), *time, bytes_in(line), out, at);
@@ -47,12 +58,16 @@ pub fn answer(line: &[u8], clock: &mut Clock, time: &mut u64, out: &mut Block, a
 }
 
 // OOOO, of `r OOOO BBBBBBBB` and `w OOOO BBBBBBBB`.
-fn offset_in(line: &[u8]) -> u16 {
+fn offset_in(line: &[u8]) -> u16
+    ensures { λ r. ⌜ r ≡ offsetIn (now (line .entry)) ⌝ }
+{
     (byte_at(line, 2) as u16) * 256 + byte_at(line, 4) as u16
 }
 
 // BBBBBBBB.
-fn bytes_in(line: &[u8]) -> [u8; 4] {
+fn bytes_in(line: &[u8]) -> [u8; 4]
+    ensures { λ r. ⌜ r ≡ bytesIn (now (line .entry)) ⌝ }
+{
     [
         byte_at(line, 7),
         byte_at(line, 9),
@@ -70,6 +85,7 @@ fn read(
     at: usize,
 ) -> usize
     requires { ⌜ at + 4096 ≤ 65536 ⌝ }
+    ensures { λ r. ⌜ Puts (now (out .entry)) at (readSays (readOf (clockOf (now (clock .entry))) time offset) bytes) (now (out .exit)) r ⌝ }
     ensures { λ r. ⌜ r ≤ at + 4096 ⌝ }
 {
     let is_valid = serialpost_clock_read(clock, offset, time, &mut bytes);
@@ -84,6 +100,7 @@ fn read(
 // Puts the digits of four bytes in their order.
 fn put_bytes(out: &mut Block, at: usize, bytes: [u8; 4]) -> usize
     requires { ⌜ at + 8 ≤ 65536 ⌝ }
+    ensures { λ r. ⌜ Puts (now (out .entry)) at (fourDigits bytes) (now (out .exit)) r ⌝ }
     ensures { λ r. ⌜ r ≤ at + 8 ⌝ }
 {
     let a = put_byte(out, at, bytes[0]);
@@ -101,6 +118,7 @@ fn write(
     at: usize,
 ) -> usize
     requires { ⌜ at + 4096 ≤ 65536 ⌝ }
+    ensures { λ r. ⌜ Wrote (writeOf (clockOf (now (clock .entry))) time offset (valueOf bytes)) (now (clock .entry)) (now (clock .exit)) (now (out .entry)) at (now (out .exit)) r ⌝ }
     ensures { λ r. ⌜ r ≤ at + 4096 ⌝ }
 {
     if serialpost_clock_write(clock, offset, time, &bytes) {
@@ -113,6 +131,7 @@ fn write(
 // the raw status.
 fn state(clock: &Clock, out: &mut Block, at: usize) -> usize
     requires { ⌜ at + 4096 ≤ 65536 ⌝ }
+    ensures { λ r. ⌜ Puts (now (out .entry)) at (stateSays (now (clock .entry))) (now (out .exit)) r ⌝ }
     ensures { λ r. ⌜ r ≤ at + 4096 ⌝ }
 {
     let a = put(out, at, b"state");
@@ -128,6 +147,7 @@ fn state(clock: &Clock, out: &mut Block, at: usize) -> usize
 // Puts a space and the digits of a word.
 fn put_next(out: &mut Block, at: usize, word: u32) -> usize
     requires { ⌜ at + 9 ≤ 65536 ⌝ }
+    ensures { λ r. ⌜ Puts (now (out .entry)) at (text " " ++ wordDigits word) (now (out .exit)) r ⌝ }
     ensures { λ r. ⌜ r ≤ at + 9 ⌝ }
 {
     let a = put(out, at, b" ");

@@ -1,0 +1,130 @@
+-- Each answer is a law of `Answering`.
+-- Assumes nothing.
+use mathlib.Core.Path.{sym, _∙_}
+use Rattle.clock_lines.proofs.Answering.{by-read, by-write, by-time, by-no-time, by-state, by-nothing}
+use borrow.Author.Needs.{needs}
+use Rattle.clock_lines.proofs.answer.Statement.{statement}
+use Rattle.clock_lines.proofs.answer.Tie as tie
+
+slice-aggregate-fits : tie.Need-slice-aggregate-fits
+slice-aggregate-fits c = search needs
+
+fits-requires : tie.Need-fits-requires
+fits-requires c κs = search needs
+
+offset-in-requires : tie.Need-offset-in-requires
+offset-in-requires c κs = search needs
+
+bytes-in-requires : tie.Need-bytes-in-requires
+bytes-in-requires c κs = search needs
+
+read-requires : tie.Need-read-requires
+read-requires c κs = search needs
+
+returns : tie.Need-returns
+returns c =
+    by-read _ (sym (c .before .before .before .before .before .before .before .fits2 .ensures) ∙ c .before .before .before .before .before .before .if1 .taken) (c .before .before .before .before .offset-in .ensures) (c .before .before .bytes-in .ensures) (c .read .ensures .0) (search needs)
+
+slice-aggregate-fits-2 : tie.Need-slice-aggregate-fits-2
+slice-aggregate-fits-2 c = search needs
+
+fits-requires-2 : tie.Need-fits-requires-2
+fits-requires-2 c κs = search needs
+
+offset-in-requires-2 : tie.Need-offset-in-requires-2
+offset-in-requires-2 c κs = search needs
+
+bytes-in-requires-2 : tie.Need-bytes-in-requires-2
+bytes-in-requires-2 c κs = search needs
+
+write-requires : tie.Need-write-requires
+write-requires c κs = search needs
+
+returns-2 : tie.Need-returns-2
+returns-2 c =
+    by-write _ (sym (c .before .before .before .before .before .before .before .before .before .before .fits2 .ensures) ∙ c .before .before .before .before .before .before .before .before .before .if1 .left) (sym (c .before .before .before .before .before .before .before .fits3 .ensures) ∙ c .before .before .before .before .before .before .if2 .taken) (c .before .before .before .before .offset-in2 .ensures) (c .before .before .bytes-in2 .ensures) (c .write .ensures .0) (search needs)
+
+slice-aggregate-begins : tie.Need-slice-aggregate-begins
+slice-aggregate-begins c = search needs
+
+begins-requires : tie.Need-begins-requires
+begins-requires c κs = search needs
+
+parse-from-requires : tie.Need-parse-from-requires
+parse-from-requires c κs = search needs
+
+enum-known-now : tie.Need-enum-known-now
+enum-known-now c = search needs
+
+enum-told : tie.Need-enum-told
+enum-told c = search needs
+
+unknown-requires : tie.Need-unknown-requires
+unknown-requires c κs = search needs
+
+returns-3 : tie.Need-returns-3
+returns-3 c =
+    by-no-time _ (sym (c .before .before .before .before .before .before .before .before .before .before .before .before .fits2 .ensures) ∙ c .before .before .before .before .before .before .before .before .before .before .before .if1 .left) (sym (c .before .before .before .before .before .before .before .before .before .fits3 .ensures) ∙ c .before .before .before .before .before .before .before .before .if2 .left) (sym (c .before .before .before .before .before .before .begins .ensures) ∙ c .before .before .before .before .before .if3 .taken) (sym (c .before .before .enum-told .given .1) ∙ c .before .before .before .before .parse-from .ensures) (c .unknown .ensures) (search needs)
+
+slice-aggregate-put : tie.Need-slice-aggregate-put
+slice-aggregate-put c = search needs
+
+put-requires : tie.Need-put-requires
+put-requires c κs = search needs
+
+returns-4 : tie.Need-returns-4
+returns-4 c =
+    by-time _ (sym (c .before .before .before .before .before .before .before .before .before .before .before .before .before .before .fits2 .ensures) ∙ c .before .before .before .before .before .before .before .before .before .before .before .before .before .if1 .left) (sym (c .before .before .before .before .before .before .before .before .before .before .before .fits3 .ensures) ∙ c .before .before .before .before .before .before .before .before .before .before .if2 .left) _ (sym (c .before .before .before .before .before .before .before .before .begins .ensures) ∙ c .before .before .before .before .before .before .before .if3 .taken) (sym (c .before .before .before .before .now .given .1) ∙ c .before .before .before .before .before .before .parse-from .ensures) (c .put .ensures) (search needs)
+
+slice-aggregate-fits-3 : tie.Need-slice-aggregate-fits-3
+slice-aggregate-fits-3 c = search needs
+
+fits-requires-3 : tie.Need-fits-requires-3
+fits-requires-3 c κs = search needs
+
+state-requires : tie.Need-state-requires
+state-requires c κs = search needs
+
+returns-5 : tie.Need-returns-5
+returns-5 c =
+    by-state _ (sym (c .before .before .before .before .before .before .before .before .before .before .before .before .before .fits2 .ensures) ∙ c .before .before .before .before .before .before .before .before .before .before .before .before .if1 .left) (sym (c .before .before .before .before .before .before .before .before .before .before .fits3 .ensures) ∙ c .before .before .before .before .before .before .before .before .before .if2 .left) (sym (c .before .before .before .before .before .before .before .begins .ensures) ∙ c .before .before .before .before .before .before .if3 .left) (sym (c .before .before .before .before .fits4 .ensures) ∙ c .before .before .before .if4 .taken) (c .state .ensures .0) (search needs)
+
+unknown-requires-2 : tie.Need-unknown-requires-2
+unknown-requires-2 c κs = search needs
+
+returns-6 : tie.Need-returns-6
+returns-6 c =
+    by-nothing _ (sym (c .before .before .before .before .before .before .before .before .before .before .before .before .fits2 .ensures) ∙ c .before .before .before .before .before .before .before .before .before .before .before .if1 .left) (sym (c .before .before .before .before .before .before .before .before .before .fits3 .ensures) ∙ c .before .before .before .before .before .before .before .before .if2 .left) (sym (c .before .before .before .before .before .before .begins .ensures) ∙ c .before .before .before .before .before .if3 .left) (sym (c .before .before .before .fits4 .ensures) ∙ c .before .before .if4 .left) (c .unknown2 .ensures) (search needs)
+
+pub answer-spec : {M : Type 1} → statement M
+answer-spec =
+    tie.close
+    (tie.spec
+    slice-aggregate-fits
+    fits-requires
+    offset-in-requires
+    bytes-in-requires
+    read-requires
+    returns
+    slice-aggregate-fits-2
+    fits-requires-2
+    offset-in-requires-2
+    bytes-in-requires-2
+    write-requires
+    returns-2
+    slice-aggregate-begins
+    begins-requires
+    parse-from-requires
+    enum-known-now
+    enum-told
+    unknown-requires
+    returns-3
+    slice-aggregate-put
+    put-requires
+    returns-4
+    slice-aggregate-fits-3
+    fits-requires-3
+    state-requires
+    returns-5
+    unknown-requires-2
+    returns-6)

@@ -1,0 +1,80 @@
+-- One part after the other.
+-- Assumes nothing.
+use Rattle.words.proofs.Putting.{both}
+use borrow.Author.Needs.{needs}
+use Rattle.clock_lines.proofs.state.Statement.{statement}
+use Rattle.clock_lines.proofs.state.Tie as tie
+
+slice-aggregate-put : tie.Need-slice-aggregate-put
+slice-aggregate-put c = search needs
+
+put-requires : tie.Need-put-requires
+put-requires c κs = search needs
+
+element-copy-out-put-next : tie.Need-element-copy-out-put-next
+element-copy-out-put-next c = search needs
+
+put-next-requires : tie.Need-put-next-requires
+put-next-requires c κs = search needs
+
+element-copy-out-put-next-2 : tie.Need-element-copy-out-put-next-2
+element-copy-out-put-next-2 c = search needs
+
+put-next-requires-2 : tie.Need-put-next-requires-2
+put-next-requires-2 c κs = search needs
+
+element-copy-out-put-word : tie.Need-element-copy-out-put-word
+element-copy-out-put-word c = search needs
+
+put-word-requires : tie.Need-put-word-requires
+put-word-requires c κs = search needs
+
+element-copy-out-put-next-3 : tie.Need-element-copy-out-put-next-3
+element-copy-out-put-next-3 c = search needs
+
+put-next-requires-3 : tie.Need-put-next-requires-3
+put-next-requires-3 c κs = search needs
+
+element-copy-out-put-next-4 : tie.Need-element-copy-out-put-next-4
+element-copy-out-put-next-4 c = search needs
+
+put-next-requires-4 : tie.Need-put-next-requires-4
+put-next-requires-4 c κs = search needs
+
+element-copy-out-put-next-5 : tie.Need-element-copy-out-put-next-5
+element-copy-out-put-next-5 c = search needs
+
+put-next-requires-5 : tie.Need-put-next-requires-5
+put-next-requires-5 c κs = search needs
+
+slice-aggregate-put-2 : tie.Need-slice-aggregate-put-2
+slice-aggregate-put-2 c = search needs
+
+put-requires-2 : tie.Need-put-requires-2
+put-requires-2 c κs = search needs
+
+returns : tie.Need-returns
+returns c =
+    (both (both (both (both (both (both (both (c .before .before .before .before .before .before .before .before .before .before .before .before .before .before .before .before .before .before .before .before .before .put .ensures) (c .before .before .before .before .before .before .before .before .before .before .before .before .before .before .before .before .before .before .put-next .ensures .0)) (c .before .before .before .before .before .before .before .before .before .before .before .before .before .before .before .put-next2 .ensures .0)) (c .before .before .before .before .before .before .before .before .before .before .before .before .put-word .ensures .0)) (c .before .before .before .before .before .before .before .before .before .put-next3 .ensures .0)) (c .before .before .before .before .before .before .put-next4 .ensures .0)) (c .before .before .before .put-next5 .ensures .0)) (c .put2 .ensures), search needs)
+
+pub state-spec : {M : Type 1} → statement M
+state-spec =
+    tie.close
+    (tie.spec
+    slice-aggregate-put
+    put-requires
+    element-copy-out-put-next
+    put-next-requires
+    element-copy-out-put-next-2
+    put-next-requires-2
+    element-copy-out-put-word
+    put-word-requires
+    element-copy-out-put-next-3
+    put-next-requires-3
+    element-copy-out-put-next-4
+    put-next-requires-4
+    element-copy-out-put-next-5
+    put-next-requires-5
+    slice-aggregate-put-2
+    put-requires-2
+    returns)
