@@ -18,7 +18,7 @@ use Rattle.pc16550d.proofs.OnLine.{input-complete, input-real}
 write-complete : (p : Port) → Sound p → (r : Register) (v : ℕ) → WriteAgrees p r v ⊎ Row p (writes r v)
 unfolding chipOf writeRegister chip.writeRegister level
 write-complete p k RBR-THR v = thr-write p v k _ refl (decLt (length (p .waiting)) 16) _ _ refl refl
-write-complete p k IER v = ier-write p v _ _ refl refl
+write-complete p k IER v = ier-write p v _ _ _ _ refl refl refl refl
 write-complete p k IIR-FCR v = fcr-write p v _ _ refl refl (ℕ-discrete (triggerLevel v) 1) _ refl
 write-complete p k LCR v = inl (quietly p tt refl refl)
 write-complete p k MCR v = mcr-write p v (ℕ-discrete (writeMcr (chipOf p .modem) v .changes) 0)

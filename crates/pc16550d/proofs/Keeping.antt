@@ -9,7 +9,7 @@ use lib.ListN.{length, take}
 use lib.Dec.{eqb}
 use borrow.Author.Tests.{eqb-false, ltb-true}
 use Rattle.common.specs.Lists.{some}
-use Rattle.serial.specs.Interrupts.{receivedData, transmitterEmpty, Announced}
+use Rattle.serial.specs.Interrupts.{receivedData, transmitterEmpty, ierStored, Announced, announce}
 use Rattle.serial.specs.LineStatus.{lsrReady, lsrAfterRead}
 use Rattle.serial.specs.Port.{Port, Register, Out, Input, addressed, isOpen, inLoop, fresh, readRegister, writeRegister, writeLine, hasRoom, roomOf, receives, inputOf, RBR-THR, IER, IIR-FCR, LCR, MCR, LSR, MSR, SCR, DLL, DLM, beyond}
 use Rattle.serial.specs.Port as device
@@ -58,12 +58,22 @@ receives-keeps p bytes k w =
     (λ e m. record { iir = data-marked (k .iir); held = λ m. w; lsr = lsr; msr = k .msr; size = k .size })
     (λ q. record { iir = k .iir; held = λ m. w; lsr = lsr; msr = k .msr; size = k .size })
 
-line-keeps : (p : Port) (v : ℕ) → Sound p → Sound (writeLine p v .port)
-unfolding writeLine
-line-keeps p v k =
-    announce-cases (λ (a : Announced). Sound (device.withReceiver p (a .iir) (p .lsr) (p .waiting))) (p .settings .ier) (p .iir) transmitterEmpty
+-- A kind is announced, and no byte moves: received data while one waits; the transmitter's.
+data-keeps : (p : Port) (ier : ℕ) → Sound p → some (p .waiting) ≡ true → Sound (device.withReceiver p (announce ier (p .iir) receivedData .iir) (p .lsr) (p .waiting))
+data-keeps p ier k w =
+    announce-cases (λ (a : Announced). Sound (device.withReceiver p (a .iir) (p .lsr) (p .waiting))) ier (p .iir) receivedData
+    (λ e m. record { iir = data-marked (k .iir); held = λ m. w; lsr = k .lsr; msr = k .msr; size = k .size })
+    (λ q. k)
+
+transmitter-keeps : (p : Port) (ier : ℕ) → Sound p → Sound (device.withReceiver p (announce ier (p .iir) transmitterEmpty .iir) (p .lsr) (p .waiting))
+transmitter-keeps p ier k =
+    announce-cases (λ (a : Announced). Sound (device.withReceiver p (a .iir) (p .lsr) (p .waiting))) ier (p .iir) transmitterEmpty
     (λ e m. record { iir = transmitter-marked (k .iir); held = λ m. k .held (sym (transmitter-marked-keeps (k .iir)) ∙ m); lsr = k .lsr; msr = k .msr; size = k .size })
     (λ q. k)
+
+line-keeps : (p : Port) (v : ℕ) → Sound p → Sound (writeLine p v .port)
+unfolding writeLine
+line-keeps p v k = transmitter-keeps p (p .settings .ier) k
 
 either : {A : Type 0} (P : A → Type 0) (t : Bool) {a b : A} → (t ≡ true → P a) → (t ≡ false → P b) → P (cond t a b)
 either P true f g = f refl
@@ -73,6 +83,21 @@ either P false f g = g refl
 settings-keep : (p : Port) (s : device.Settings) → Sound p → Sound (device.withSettings p s)
 settings-keep p s k = record { iir = k .iir; held = k .held; lsr = k .lsr; msr = k .msr; size = k .size }
 
+-- IER is written: received data is announced if bytes wait, then the transmitter's kind.
+ier-keeps : (p : Port) (v : ℕ) → Sound p → Sound (device.writeIer p v .port)
+unfolding device.writeIer
+ier-keeps p v k = transmitter-keeps (with-data (some (p .waiting))) (ierStored v) (data-kept (some (p .waiting)) refl)
+  where
+    stored : Port
+    stored = device.withSettings p (device.putIer (p .settings) (ierStored v))
+
+    with-data : Bool → Port
+    with-data w = device.withReceiver stored (cond w (announce (ierStored v) (p .iir) receivedData) (record { iir = p .iir; raises = 0 }) .iir) (p .lsr) (p .waiting)
+
+    data-kept : (w : Bool) → some (p .waiting) ≡ w → Sound (with-data w)
+    data-kept true w = data-keeps stored (ierStored v) (settings-keep p _ k) w
+    data-kept false w = settings-keep p _ k
+
 write-keeps : (p : Port) → Sound p → (r : Register) (v : ℕ) → Sound (writeRegister p r v .port)
 unfolding writeRegister
 write-keeps p k RBR-THR v =
@@ -80,7 +105,7 @@ write-keeps p k RBR-THR v =
     either S (inLoop p)
     (λ l. either S (hasRoom p) (λ h. receives-keeps p (v ∷ []) k (some-more (p .waiting) v [])) (λ h. k))
     (λ l. line-keeps p v k)
-write-keeps p k IER v = settings-keep p _ k
+write-keeps p k IER v = ier-keeps p v k
 write-keeps p k IIR-FCR v = k
 write-keeps p k LCR v = settings-keep p _ k
 write-keeps p k MCR v = settings-keep p _ k

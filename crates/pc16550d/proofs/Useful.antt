@@ -4,7 +4,7 @@ use mathlib.Core.Path.{refl}
 use Rattle.sidebyside.specs.Runs.{RowFree}
 use Rattle.pc16550d.specs.Compare.{pair}
 use Rattle.pc16550d.specs.Runs.{begins}
-use Rattle.pc16550d.specs.Drivers.{linuxReceives, linuxPrints, loaderPolls}
+use Rattle.pc16550d.specs.Drivers.{linuxReceives, linuxPrints, linuxPrintsTypedAt, linuxPrintsSending, seabiosDetects, loaderPolls}
 use Rattle.pc16550d.proofs.Computing.{computing}
 use Rattle.pc16550d.proofs.RunTest.{testing, passes}
 
@@ -17,6 +17,20 @@ linux-receives = passes linuxReceives refl
 pub linux-prints : RowFree pair begins linuxPrints
 unfolding computing testing
 linux-prints = passes linuxPrints refl
+
+-- Nor does it while a key is pressed, nor while its transmitter's interrupt is in use.
+pub linux-prints-typed-at : RowFree pair begins linuxPrintsTypedAt
+unfolding computing testing
+linux-prints-typed-at = passes linuxPrintsTypedAt refl
+
+pub linux-prints-sending : RowFree pair begins linuxPrintsSending
+unfolding computing testing
+linux-prints-sending = passes linuxPrintsSending refl
+
+-- SeaBIOS finds the port without meeting a row.
+pub seabios-detects : RowFree pair begins seabiosDetects
+unfolding computing testing
+seabios-detects = passes seabiosDetects refl
 
 -- A boot loader sets up, writes and reads without meeting a row.
 pub loader-polls : RowFree pair begins loaderPolls

@@ -8,14 +8,14 @@ use lib.Dec.{lit≤, lit<}
 use Rattle.sidebyside.specs.Answers.{says, refuses}
 use Rattle.sidebyside.specs.Runs.{deviceAfter, chipAfter, Shown}
 use Rattle.pc16550d.specs.Chip.{read, write, input, chipDoes}
-use Rattle.pc16550d.specs.Compare.{deviceDoes, chipOf, pair, serial-two-kinds, serial-forgotten-data, serial-stale-data, serial-stale-transmitter, serial-wide-mcr, serial-loop-transmitter, serial-loop-overrun, serial-line-overrun, serial-enable-transmitter, serial-quiet-enable, serial-fifo-off, serial-fifo-empty, serial-trigger-level, serial-modem-change}
+use Rattle.pc16550d.specs.Compare.{deviceDoes, chipOf, pair, serial-two-kinds, serial-forgotten-data, serial-stale-data, serial-stale-transmitter, serial-wide-mcr, serial-loop-transmitter, serial-loop-overrun, serial-line-overrun, serial-transmitter-again, serial-quiet-enable, serial-fifo-off, serial-fifo-empty, serial-trigger-level, serial-modem-change}
 use Rattle.pc16550d.specs.Runs.{begins, ShownQuiet}
 use Rattle.pc16550d.proofs.Computing.{computing}
 
 abbrev sixteen : List ℕ
 sixteen = 1 ∷ 2 ∷ 3 ∷ 4 ∷ 5 ∷ 6 ∷ 7 ∷ 8 ∷ 9 ∷ 10 ∷ 11 ∷ 12 ∷ 13 ∷ 14 ∷ 15 ∷ 16 ∷ []
 
-pub shows-serial-two-kinds : Shown pair begins (write 1 0x03 ∷ write 0 0x41 ∷ input (0x42 ∷ []) ∷ []) (read 2) [] 0xc6 0xc4
+pub shows-serial-two-kinds : Shown pair begins (write 1 0x03 ∷ input (0x42 ∷ []) ∷ []) (read 2) [] 0xc6 0xc4
 unfolding computing
 shows-serial-two-kinds = record { row = serial-two-kinds refl; device = refl; manual = refl }
 
@@ -27,7 +27,7 @@ pub shows-serial-stale-data : Shown pair begins (write 1 0x01 ∷ input (0x41 �
 unfolding computing
 shows-serial-stale-data = record { row = serial-stale-data refl refl; device = refl; manual = refl }
 
-pub shows-serial-stale-transmitter : Shown pair begins (write 1 0x02 ∷ write 0 0x41 ∷ write 1 0x00 ∷ []) (read 2) [] 0xc2 0xc1
+pub shows-serial-stale-transmitter : Shown pair begins (write 1 0x02 ∷ write 1 0x00 ∷ []) (read 2) [] 0xc2 0xc1
 unfolding computing
 shows-serial-stale-transmitter = record { row = serial-stale-transmitter refl refl; device = refl; manual = refl }
 
@@ -54,13 +54,13 @@ pub shows-full : (deviceDoes (deviceAfter pair begins (input (sixteen ++ (sixtee
 unfolding computing
 shows-full = (refl, refl)
 
-pub shows-serial-enable-transmitter : Shown pair begins [] (write 1 0x02) (read 2 ∷ []) 0xc1 0xc2
+pub shows-serial-transmitter-again : Shown pair begins (write 1 0x02 ∷ read 2 ∷ []) (write 1 0x02) (read 2 ∷ []) 0xc2 0xc1
 unfolding computing
-shows-serial-enable-transmitter = record { row = serial-enable-transmitter refl refl refl; device = refl; manual = refl }
+shows-serial-transmitter-again = record { row = serial-transmitter-again refl refl refl; device = refl; manual = refl }
 
-pub shows-serial-quiet-enable : ShownQuiet (input (0x41 ∷ []) ∷ []) (write 1 0x01)
+pub shows-serial-quiet-enable : ShownQuiet (write 1 0x01 ∷ input (0x41 ∷ []) ∷ write 1 0x00 ∷ []) (write 1 0x01)
 unfolding computing
-shows-serial-quiet-enable = record { row = serial-quiet-enable refl refl; device = refl; low = refl; high = refl }
+shows-serial-quiet-enable = record { row = serial-quiet-enable refl refl refl refl; device = refl; low = refl; high = refl }
 
 pub shows-serial-fifo-off : Shown pair begins [] (write 2 0x00) (read 2 ∷ []) 0xc1 0x01
 unfolding computing

@@ -8,7 +8,7 @@ use Rattle.common.specs.Bits.{on}
 use Rattle.common.specs.Lists.{some}
 use Rattle.sidebyside.specs.Answers.{Answer, answers, refuses, Fits}
 use Rattle.sidebyside.specs.Runs.{Pair}
-use Rattle.serial.specs.Interrupts.{Kind, receivedData, transmitterEmpty, isEnabled, isMarked, ierStored}
+use Rattle.serial.specs.Interrupts.{Kind, receivedData, transmitterEmpty, isEnabled, isMarked, isDue, ierStored}
 use Rattle.serial.specs.Port.{Port, Register, RBR-THR, IER, IIR-FCR, MCR, addressed, isOpen, inLoop, readOf, writeOf, inputOf}
 use Rattle.serial.specs.Port as device
 use Rattle.pc16550d.specs.Chip.{Chip, pin, Op, read, write, input, chipDoes}
@@ -104,8 +104,7 @@ accessOf p (input bytes) = receives bytes
 pub data Row (p : Port) : Access → Type 0 where
   -- IIR is read with both kinds marked: the device shows both at once, the manual the one of higher priority.
   serial-two-kinds : p .iir ≡ 0x06 → Row p (reads IIR-FCR)
-  -- IIR is read while bytes wait and received data is enabled, and the device does not show it: a read of IIR or RBR unmarked it, or the bytes
-  -- came while it was disabled.
+  -- IIR is read while bytes wait and received data is enabled, and the device does not show it: a read of IIR or RBR unmarked it.
   serial-forgotten-data : some (p .waiting) ≡ true → enables p receivedData ≡ true → marks p receivedData ≡ false → Row p (reads IIR-FCR)
   -- IIR is read and shows received data, which was disabled after it was marked.
   serial-stale-data : p .iir ≡ 0x04 → enables p receivedData ≡ false → Row p (reads IIR-FCR)
@@ -120,11 +119,13 @@ pub data Row (p : Port) : Access → Type 0 where
   serial-loop-overrun : {v : ℕ} → inLoop p ≡ true → 16 ≤ length (p .waiting) → Row p (writes RBR-THR v)
   -- Bytes come over the line, and more would wait than 16: the chip loses some and says "overrun"; the device takes as many as fit its own size.
   serial-line-overrun : {bytes : List ℕ} → inLoop p ≡ false → some bytes ≡ true → 16 < length (p .waiting) + length bytes → Row p (receives bytes)
-  -- IER 0x02 goes from 0 to 1 and the transmitter's mark is not there: the chip's empty transmitter signals at once.
-  serial-enable-transmitter : {v : ℕ} → enables p transmitterEmpty ≡ false → isEnabled (ierStored v) transmitterEmpty ≡ true
+  -- IER is written with 0x02 at 1, which it was already, and the transmitter's mark is gone: the device marks it and raises again, the chip does not.
+  serial-transmitter-again : {v : ℕ} → enables p transmitterEmpty ≡ true → isEnabled (ierStored v) transmitterEmpty ≡ true
       → marks p transmitterEmpty ≡ false → Row p (writes IER v)
-  -- A write of IER lets a pending kind through, and the chip's pin rises; the device raises nothing.
-  serial-quiet-enable : {v : ℕ} → pin (chipOf p) ≡ false → pin (chip.writeRegister (chipOf p) chip.IER v .chip) ≡ true → Row p (writes IER v)
+  -- A write of IER lets a pending kind through, and the chip's pin rises; the device, which kept the mark while the kind was disabled, raises nothing.
+  serial-quiet-enable : {v : ℕ} → pin (chipOf p) ≡ false → pin (chip.writeRegister (chipOf p) chip.IER v .chip) ≡ true
+      → (some (p .waiting) && isDue (ierStored v) (p .iir) receivedData) ≡ false → isDue (ierStored v) (p .iir) transmitterEmpty ≡ false
+      → Row p (writes IER v)
   -- FCR is written with 0x01 off: the chip turns its FIFOs off.
   serial-fifo-off : {v : ℕ} → on v 0x01 ≡ false → Row p (writes IIR-FCR v)
   -- FCR is written with 0x02: the chip loses the bytes that wait.

@@ -10,9 +10,9 @@ use lib.ListN.{length, take, length-take}
 use lib.Dec.{eqb, ltb}
 use borrow.Author.Tests.{eqb-false, ltb-true, lt-ltb}
 use Rattle.common.specs.Lists.{some, firstOr0}
-use Rattle.serial.specs.Interrupts.{receivedData, announce}
+use Rattle.serial.specs.Interrupts.{receivedData, ierStored, Announced, announce}
 use Rattle.serial.specs.LineStatus.{lsrReady}
-use Rattle.serial.specs.Port.{Register, RBR-THR, IER, IIR-FCR, LCR, MCR, LSR, MSR, SCR, DLL, DLM, beyond, addressed, Settings, Port, isOpen, inLoop, withReceiver, Out, replies, becomes, readRbr, readIir, readRegister, readOf, receives, hasRoom, writeLine, writeRegister, writeOf, Input, roomOf, takesNone, takesSome, inputOf}
+use Rattle.serial.specs.Port.{Register, RBR-THR, IER, IIR-FCR, LCR, MCR, LSR, MSR, SCR, DLL, DLM, beyond, addressed, Settings, Port, isOpen, inLoop, withReceiver, Out, replies, becomes, readRbr, readIir, readRegister, readOf, receives, hasRoom, putIer, writeIer, writeLine, writeRegister, writeOf, Input, roomOf, takesNone, takesSome, inputOf}
 use Rattle.runs.proofs.Registers.{isRbr, rbr-is-data}
 use Rattle.runs.specs.Run.{Op, read, write, input, room, sent, full, raisesOf, didInput, step, run}
 use Rattle.runs.specs.Book.{accepted, readsData, delivered, taken, bookOf}
@@ -72,14 +72,19 @@ read-cases P p a b c beyond = c _
 pub write-cases : (P : Out → Bool → Type 0) (p : Port) (v : ℕ) → (hasRoom p ≡ true → P (receives p (v ∷ [])) true)
     → ((s : Settings) (iir n : ℕ) (l : List ℕ) → Announces (p .waiting) (s .ier) (p .iir) iir n → P (record { port = withMarks p s iir; reply = 0; sent = l; raises = n }) false)
     → (r : Register) → P (writeRegister p r v) (isRbr r && inLoop p && hasRoom p)
-unfolding writeRegister writeLine isRbr
+unfolding writeRegister writeIer writeLine isRbr
 write-cases P p v a b RBR-THR = go (inLoop p) (hasRoom p) refl
   where
     go : (l h : Bool) → hasRoom p ≡ h → P (cond l (cond h (receives p (v ∷ [])) (becomes p)) (writeLine p v)) (l && h)
     go true true e = a e
     go true false e = b (p .settings) (p .iir) 0 [] none
     go false h e = b (p .settings) _ _ _ (once _ _ transmitter tt)
-write-cases P p v a b IER = b _ _ _ _ none
+write-cases P p v a b IER = b (putIer (p .settings) (ierStored v)) _ _ [] (then (waiting (some (p .waiting)) refl) transmitter tt)
+  where
+    waiting : (w : Bool) → some (p .waiting) ≡ w → let r : Announced = cond w (announce (ierStored v) (p .iir) receivedData) (record { iir = p .iir; raises = 0 }) in
+        Announces (p .waiting) (ierStored v) (p .iir) (r .iir) (r .raises)
+    waiting true e = once _ _ receiver e
+    waiting false e = none
 write-cases P p v a b IIR-FCR = b _ _ _ _ none
 write-cases P p v a b LCR = b _ _ _ _ none
 write-cases P p v a b MCR = b _ _ _ _ none

@@ -1,4 +1,5 @@
--- Runs after which a byte waits, received data is enabled, and nothing tells the guest. Each by computation.
+-- What a guest is not told: runs after which a byte waits, received data is enabled and not marked; and one after which it is marked and not raised anew.
+-- Each by computation.
 -- Assumes nothing.
 use mathlib.Core.Path.{_≡_, refl, sym, ap, _∙_}
 use mathlib.Core.Bool.{Bool, true, false, cond, false≢true, true≢false}
@@ -9,28 +10,31 @@ use lib.ListN.{length}
 use Rattle.common.specs.Lists.{some}
 use Rattle.serial.specs.Interrupts.{receivedData, isEnabled, isMarked, ierStored, mark, unmark, isDue, Announced, announce}
 use Rattle.serial.specs.Modem.{isLoop}
-use Rattle.serial.specs.Port.{RBR-THR, IER, DLL, DLM, addressed, Settings, Port, withSettings, becomes, isOpen, inLoop, hasRoom, fresh, readRegister, readOf, receives, writeLine, writeRegister, writeOf, inputOf, Input}
+use Rattle.serial.specs.Port.{RBR-THR, IER, DLL, DLM, addressed, Settings, Port, withSettings, becomes, isOpen, inLoop, hasRoom, fresh, readRegister, readOf, receives, writeIer, writeLine, writeRegister, writeOf, inputOf, Input}
 use Rattle.serial.specs.Layout.{capacity}
 use Rattle.runs.specs.Run.{Op, read, write, input, room, step, run, sent, took}
-use Rattle.runs.specs.Told.{receiver, transmitter, enabled, marked, Untold, Hole, identified, read-one, enabled-late, MeetsHole, here, further}
-use Rattle.runs.proofs.Rooms.{mark-same, mark-other, Outcome, raised, quiet, outcome}
+use Rattle.runs.specs.Told.{receiver, transmitter, enabled, marked, Untold, Hole, identified, read-one, MeetsHole, here, further}
+use Rattle.runs.proofs.Rooms.{outcome, announced-marked, announced-other}
 use Rattle.runs.proofs.Registers.{addressed-cases}
 use Rattle.runs.proofs.Effects.{input-cases}
+use Rattle.runs.proofs.Announcing.{ier-marks}
 
 -- The identification register is read while the byte stays: received data is forgotten.
 pub after-identification : Untold (run (fresh capacity) (write 1 0x01 ∷ input (0x61 ∷ []) ∷ read 2 ∷ []) .port)
-unfolding run step addressed readRegister writeRegister inputOf receives announce isDue mark ierStored isLoop
+unfolding run step addressed readRegister writeRegister writeIer inputOf receives announce isDue mark ierStored isLoop
 after-identification = record { waits = refl; enables = refl; unmarked = refl }
-
--- The enable register is written while a byte waits: nothing is announced, and over the whole run the interrupt is never raised.
-pub after-enabling : let r = run (fresh capacity) (input (0x61 ∷ []) ∷ write 1 0x01 ∷ []) in Untold (r .port) × (r .answers ≡ took 1 0 ∷ sent [] 0 ∷ [])
-unfolding run step addressed readRegister writeRegister inputOf receives announce isDue mark ierStored isLoop
-after-enabling = (record { waits = refl; enables = refl; unmarked = refl }, refl)
 
 -- One of two bytes is read: received data is unmarked though the other waits.
 pub after-a-read : Untold (run (fresh capacity) (write 1 0x01 ∷ input (0x61 ∷ 0x62 ∷ []) ∷ read 0 ∷ []) .port)
-unfolding run step addressed readRegister writeRegister inputOf receives announce isDue mark unmark ierStored isLoop
+unfolding run step addressed readRegister writeRegister writeIer inputOf receives announce isDue mark unmark ierStored isLoop
 after-a-read = record { waits = refl; enables = refl; unmarked = refl }
+
+-- Off and on again with the mark kept: the guest was told of the first byte, and is not told anew as received data is enabled again, though another byte came
+-- meanwhile. Two bytes wait and received data is marked.
+pub off-and-on : let r = run (fresh capacity) (write 1 0x01 ∷ input (0x61 ∷ []) ∷ write 1 0x00 ∷ input (0x62 ∷ []) ∷ write 1 0x01 ∷ []) in
+    (r .answers ≡ sent [] 0 ∷ took 1 1 ∷ sent [] 0 ∷ took 1 0 ∷ sent [] 0 ∷ []) × (r .port .waiting ≡ 0x61 ∷ 0x62 ∷ []) × (marked (r .port) receiver ≡ true)
+unfolding run step addressed readRegister writeRegister writeIer inputOf receives announce isDue mark ierStored isLoop
+off-and-on = (refl, refl, refl)
 
 -- ---- There are no others
 
@@ -45,20 +49,18 @@ same {p} {q} w e i u = record {
 -- where bytes come they are told of
 told-of : (p : Port) (bytes : List ℕ) → Untold (receives p bytes .port) → ⊥
 unfolding receives
-told-of p bytes u = go (outcome receiver (p .settings .ier) (p .iir)) (u .enables) (u .unmarked)
-  where
-    go : {a : Announced} → Outcome receiver (p .settings .ier) (p .iir) a → isEnabled (p .settings .ier) receivedData ≡ true → isMarked (a .iir) receivedData ≡ false → ⊥
-    go (raised _ _) e m = true≢false (sym (mark-same receiver (p .iir)) ∙ m)
-    go (quiet h) e m = true≢false (sym (h e) ∙ m)
+told-of p bytes u = true≢false (sym (announced-marked (outcome receiver (p .settings .ier) (p .iir)) (u .enables)) ∙ u .unmarked)
+
+-- where IER is written what waits is told of
+enabled-told : (p : Port) (v : ℕ) → Untold (writeIer p v .port) → ⊥
+unfolding writeIer
+enabled-told p v u = true≢false (sym (ier-marks p v receiver (u .enables) (u .waits)) ∙ u .unmarked)
 
 -- what is sent changes nothing of it
 sent-on : (p : Port) (v : ℕ) → Untold (writeLine p v .port) → Untold p
 unfolding writeLine
-sent-on p v u = go (outcome transmitter (p .settings .ier) (p .iir)) (u .unmarked)
-  where
-    go : {a : Announced} → Outcome transmitter (p .settings .ier) (p .iir) a → isMarked (a .iir) receivedData ≡ false → Untold p
-    go (raised _ _) m = record { waits = u .waits; enables = u .enables; unmarked = sym (mark-other transmitter (p .iir)) ∙ m }
-    go (quiet h) m = record { waits = u .waits; enables = u .enables; unmarked = m }
+sent-on p v u =
+    record { waits = u .waits; enables = u .enables; unmarked = sym (announced-other (outcome transmitter (p .settings .ier) (p .iir))) ∙ u .unmarked }
 
 two-wait : (q : List ℕ) → some (tail q) ≡ true → 2 ≤ length q
 two-wait [] h = absurd (false≢true h)
@@ -105,15 +107,11 @@ module _ (p : Port) (before : Untold p → ⊥) where
       at0 true u = stored refl u
       at0 false u = thr (inLoop p) (hasRoom p) u
 
-      ier : (e : Bool) → enabled p receiver ≡ e → Untold (writeRegister p IER v .port) → Hole p (write 1 v)
-      ier true e u = no-hole (record { waits = u .waits; enables = e; unmarked = u .unmarked })
-      ier false e u = enabled-late e
-
       at1 : (t : Bool) → Untold (writeRegister p (cond t DLM IER) v .port) → Hole p (write 1 v)
       at1 true u = stored refl u
-      at1 false u = ier (enabled p receiver) refl u
+      at1 false u = absurd (enabled-told p v u)
 
-  -- An operation after which nothing tells the guest of a byte, though that was not so before, is one of the three.
+  -- An operation after which nothing tells the guest of a byte, though that was not so before, is one of the two.
   pub only-holes : (o : Op) → Untold (step p o .port) → Hole p o
   unfolding step
   only-holes (read offset) u = by-read offset u

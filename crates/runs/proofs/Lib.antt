@@ -4,6 +4,7 @@ pub mod Effects
 pub mod Conserved
 pub mod Status
 pub mod Told
+pub mod Announcing
 pub mod Holes
 pub mod Reachable
 pub mod Exact

@@ -7,7 +7,7 @@ use native.Mathlib.Omega.{arith}
 use lib.Dec.{eqb}
 use borrow.Author.Tests.{eqb-true, eqb-false, ne-eqb}
 use Rattle.serial.specs.Interrupts.{ierStored}
-use Rattle.serial.specs.Port.{Register, RBR-THR, IER, IIR-FCR, LCR, MCR, LSR, MSR, SCR, DLL, DLM, beyond, addressed, Settings, Port, inLoop, hasRoom, putIer, putLcr, putMcr, putScr, putDll, putDlm, Out, receives, writeLine, writeRegister}
+use Rattle.serial.specs.Port.{Register, RBR-THR, IER, IIR-FCR, LCR, MCR, LSR, MSR, SCR, DLL, DLM, beyond, addressed, Settings, Port, inLoop, hasRoom, putIer, putLcr, putMcr, putScr, putDll, putDlm, Out, receives, writeIer, writeLine, writeRegister}
 
 -- what holds of both of a test's cases holds of its outcome
 pub both : {A : Type 0} (P : A → Type 0) (t : Bool) {a b : A} → P a → P b → P (cond t a b)
@@ -83,7 +83,7 @@ put s DLM v = putDlm s v
 put s beyond v = s
 
 pub write-puts : (p : Port) (r : Register) (v : ℕ) → writeRegister p r v .port .settings ≡ put (p .settings) r v
-unfolding writeRegister put receives writeLine
+unfolding writeRegister put receives writeIer writeLine
 write-puts p RBR-THR v = let P : Out → Type 0 = λ o. o .port .settings ≡ p .settings in both P (inLoop p) (both P (hasRoom p) refl refl) refl
 write-puts p IER v = refl
 write-puts p IIR-FCR v = refl

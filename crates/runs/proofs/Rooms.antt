@@ -127,6 +127,30 @@ outcome s ier iir = go (isEnabled ier (kindOf s)) (isMarked iir (kindOf s)) refl
     go true false e m = raised e m
     go false m e f = quiet (λ h. absurd (false≢true (sym e ∙ h)))
 
+-- so afterwards a source that is enabled is marked, and no mark has gone
+pub announced-marked : {s : Source} {ier iir : ℕ} {a : Announced} → Outcome s ier iir a → isEnabled ier (kindOf s) ≡ true → isMarked (a .iir) (kindOf s) ≡ true
+announced-marked {s} {ier} {iir} (raised _ _) e = mark-same s iir
+announced-marked (quiet h) e = h e
+
+pub announced-keeps : {s : Source} {ier iir : ℕ} {a : Announced} (t : Source) → Outcome s ier iir a → isMarked iir (kindOf t) ≡ true → isMarked (a .iir) (kindOf t) ≡ true
+announced-keeps {s} {ier} {iir} t (raised _ _) h = mark-grows s t iir h
+announced-keeps t (quiet _) h = h
+
+-- the other source's mark is as it was
+pub announced-other : {s : Source} {ier iir : ℕ} {a : Announced} → Outcome s ier iir a → isMarked (a .iir) (kindOf (other s)) ≡ isMarked iir (kindOf (other s))
+announced-other {s} {ier} {iir} (raised _ _) = mark-other s iir
+announced-other (quiet _) = refl
+
+-- and the interrupt is raised once where the source is enabled and not marked
+pub announced-raises : {s : Source} {ier iir : ℕ} {a : Announced} → Outcome s ier iir a → a .raises ≡ cond (isEnabled ier (kindOf s) && not (isMarked iir (kindOf s))) 1 0
+announced-raises (raised e m) = rw (e, m)
+announced-raises {s} {ier} {iir} (quiet h) = go (isEnabled ier (kindOf s)) (isMarked iir (kindOf s)) h
+  where
+    go : (e m : Bool) → (e ≡ true → m ≡ true) → _≡_ {A = ℕ} 0 (cond (e && not m) 1 0)
+    go true true h = refl
+    go true false h = absurd (false≢true (h refl))
+    go false m h = refl
+
 -- ---- Line status
 
 pub ready-set : (x : ℕ) → on (lsrReady x) 0x01 ≡ true

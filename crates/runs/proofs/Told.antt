@@ -12,19 +12,19 @@ use Rattle.serial.specs.Port.{Port, fresh}
 use Rattle.runs.specs.Run.{Op, raisesOf, raisesIn, step, run}
 use Rattle.runs.specs.Book.{accepted, bookOf}
 use Rattle.runs.specs.Told.{Source, receiver, transmitter, kindOf, enabled, marked, newly, Signals, markings, Stays, Told, now, later}
-use Rattle.runs.proofs.Rooms.{mark-same, mark-grows, mark-new, marks, mark-counts, unmark-shrinks, none-marked, Outcome, raised, quiet, outcome}
+use Rattle.runs.proofs.Rooms.{mark-grows, mark-new, marks, mark-counts, unmark-shrinks, none-marked, Outcome, raised, quiet, outcome, announced-marked}
 use Rattle.runs.proofs.Effects.{Announces, none, then, once, Effect, keeps, comes, reads, identifies, effect, run-on}
 
 -- ---- Announcements
 
 -- what announcements under one IER do: a mark that stands is not taken away, a new one is of a source that is enabled, and the interrupt is raised
 -- once for each new one
-record Marking (ier iir iir′ n : ℕ) : Type 0 where
-  grows : (t : Source) → isMarked iir (kindOf t) ≡ true → isMarked iir′ (kindOf t) ≡ true
-  new : (t : Source) → isMarked iir (kindOf t) ≡ false → isMarked iir′ (kindOf t) ≡ true → isEnabled ier (kindOf t) ≡ true
-  counts : n + marks iir ≡ marks iir′
+pub record Marking (ier iir iir′ n : ℕ) : Type 0 where
+  pub grows : (t : Source) → isMarked iir (kindOf t) ≡ true → isMarked iir′ (kindOf t) ≡ true
+  pub new : (t : Source) → isMarked iir (kindOf t) ≡ false → isMarked iir′ (kindOf t) ≡ true → isEnabled ier (kindOf t) ≡ true
+  pub counts : n + marks iir ≡ marks iir′
 
-one : {s : Source} {ier iir : ℕ} {a : Announced} → Outcome s ier iir a → Marking ier iir (a .iir) (a .raises)
+pub one : {s : Source} {ier iir : ℕ} {a : Announced} → Outcome s ier iir a → Marking ier iir (a .iir) (a .raises)
 one {s} {ier} {iir} (raised e m) = record {
   grows = λ t. mark-grows s t iir;
   new = λ t h g. subst (λ (u : Source). isEnabled ier (kindOf u) ≡ true) (mark-new s t iir h g) e;
@@ -33,7 +33,7 @@ one {s} {ier} {iir} (raised e m) = record {
 one (quiet h) = record { grows = λ t g. g; new = λ t h g. absurd (false≢true (sym h ∙ g)); counts = omega arith }
 
 -- whether a mark stood or not
-split : (t : Bool) → (t ≡ true) ⊎ (t ≡ false)
+pub split : (t : Bool) → (t ≡ true) ⊎ (t ≡ false)
 split true = inl refl
 split false = inr refl
 
@@ -44,7 +44,7 @@ both {j = j} a b = record {
   counts = omega (arith, a .counts, b .counts);
 }
 
-marking : {q : List ℕ} {ier iir iir′ n : ℕ} → Announces q ier iir iir′ n → Marking ier iir iir′ n
+pub marking : {q : List ℕ} {ier iir iir′ n : ℕ} → Announces q ier iir iir′ n → Marking ier iir iir′ n
 marking none = record { grows = λ t g. g; new = λ t h g. absurd (false≢true (sym h ∙ g)); counts = omega arith }
 marking (then a s g) = both (marking a) (one (outcome s _ _))
 
@@ -86,11 +86,7 @@ signals p o = signals-step (effect p o)
 -- Whenever bytes are accepted while received data is enabled, it is marked afterwards.
 marks-step : {p q : Port} {a d : List ℕ} {t : Bool} {n : ℕ} → Effect p q a t d n → some a ≡ true → enabled p receiver ≡ true → marked q receiver ≡ true
 marks-step (keeps s m) h e = absurd (false≢true h)
-marks-step {p} (comes bytes s _) h e = go (outcome receiver (p .settings .ier) (p .iir))
-  where
-    go : {a : Announced} → Outcome receiver (p .settings .ier) (p .iir) a → isMarked (a .iir) receivedData ≡ true
-    go (raised _ _) = mark-same receiver (p .iir)
-    go (quiet m) = m e
+marks-step {p} (comes bytes s _) h e = announced-marked (outcome receiver (p .settings .ier) (p .iir)) e
 marks-step reads h e = absurd (false≢true h)
 marks-step identifies h e = absurd (false≢true h)
 
@@ -138,10 +134,12 @@ one-step : (p : Port) (o : Op) → run p (o ∷ []) .port ≡ step p o .port
 unfolding run
 one-step p o = refl
 
+-- the same of what is marked after one operation more
+pub told-last : (s : Source) (p : Port) (os : List Op) (o : Op) → marked p s ≡ false → marked (step (run p os .port) o .port) s ≡ true → Told s p (os ++ (o ∷ []))
+told-last s p os o u m = told s p (os ++ (o ∷ [])) u (subst (λ (q : Port). marked q s ≡ true) (sym (run-on p os (o ∷ []) ∙ one-step (run p os .port) o)) m)
+
 -- Whenever bytes are accepted while received data is enabled, it is marked afterwards, and the guest has been told of it since it was last unmarked.
 pub accepting-tells : (p : Port) (os : List Op) (o : Op) → marked p receiver ≡ false → let q = run p os .port in
     some (accepted (bookOf q) o (step q o .answer)) ≡ true → enabled q receiver ≡ true
     → (marked (step q o .port) receiver ≡ true) × Told receiver p (os ++ (o ∷ []))
-accepting-tells p os o u a e =
-    let m = accepting-marks (run p os .port) o a e in
-    (m, told receiver p (os ++ (o ∷ [])) u (subst (λ (q : Port). marked q receiver ≡ true) (sym (run-on p os (o ∷ []) ∙ one-step (run p os .port) o)) m))
+accepting-tells p os o u a e = let m = accepting-marks (run p os .port) o a e in (m, told-last receiver p os o u m)

@@ -1,12 +1,13 @@
 -- The ports that runs from a fresh one reach. What may be restored later is one of these.
 use Prim.Native.Nat.{ℕ, _<_, _≤_}
 use mathlib.Core.Path.{_≡_}
-use mathlib.Core.Bool.{true, cond}
+use mathlib.Core.Bool.{true, false, cond}
 use mathlib.Core.List.{List, [], _∷_}
 use lib.ListN.{length}
 use Rattle.common.specs.Lists.{some}
 use Rattle.serial.specs.Port.{Settings, Port, fresh}
 use Rattle.runs.specs.Run.{Op, read, write, input, room, run}
+use Rattle.runs.specs.Told.{receiver, transmitter, enabled, marked}
 
 -- Each of them is a byte.
 abbrev pub Bytes : List ℕ → Type 0
@@ -40,10 +41,19 @@ pub data Marks : ℕ → List ℕ → Type 0 where
   onlyReceiver : {q : List ℕ} → some q ≡ true → Marks 0x04 q
   twoKinds : {q : List ℕ} → some q ≡ true → Marks 0x06 q
 
+-- A write of IER marks what it enables, if it is present. Where one of the two is enabled, present and not marked it was unmarked since, by a read.
+pub record Unmarked (size : ℕ) (p : Port) : Type 0 where
+  -- Only a read of IIR unmarks the transmitter, and it unmarks received data too: so received data was marked since, and is enabled.
+  pub transmitter-read : enabled p transmitter ≡ true → marked p transmitter ≡ false → marked p receiver ≡ true → enabled p receiver ≡ true
+  -- A read of RBR unmarks received data alone, and leaves room for the byte that was read. After a read of IIR the transmitter is marked only if it is enabled.
+  pub receiver-read : enabled p receiver ≡ true → marked p receiver ≡ false → some (p .waiting) ≡ true → marked p transmitter ≡ true
+      → enabled p transmitter ≡ false → length (p .waiting) < size
+
 -- LSR says whether a byte waits and that the transmitter is empty; MSR is never changed; no more bytes wait than there is room for.
 pub record Reachable (size : ℕ) (p : Port) : Type 0 where
   pub settings : Written (p .settings)
   pub marks : Marks (p .iir) (p .waiting)
+  pub unmarked : Unmarked size p
   pub lsr : p .lsr ≡ cond (some (p .waiting)) 0x61 0x60
   pub msr : p .msr ≡ 0xb0
   pub bytes : Bytes (p .waiting)

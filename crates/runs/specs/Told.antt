@@ -4,10 +4,11 @@ use mathlib.Core.Path.{_≡_}
 use mathlib.Core.Bool.{Bool, true, false, cond, not, _&&_}
 use mathlib.Core.List.{List, [], _∷_}
 use lib.ListN.{length}
+use lib.Dec.{eqb}
 use Rattle.common.specs.Lists.{some}
-use Rattle.serial.specs.Interrupts.{Kind, receivedData, transmitterEmpty, isEnabled, isMarked}
-use Rattle.serial.specs.Port.{Port}
-use Rattle.runs.specs.Run.{Op, read, write, raisesOf, step}
+use Rattle.serial.specs.Interrupts.{Kind, receivedData, transmitterEmpty, ierStored, isEnabled, isMarked}
+use Rattle.serial.specs.Port.{Port, isOpen, inLoop, hasRoom}
+use Rattle.runs.specs.Run.{Op, read, write, input, room, raisesOf, step}
 
 -- The two sources that interrupt.
 pub data Source : Type 0 where
@@ -22,6 +23,42 @@ enabled p s = isEnabled (p .settings .ier) (kindOf s)
 
 abbrev pub marked : Port → Source → Bool
 marked p s = isMarked (p .iir) (kindOf s)
+
+-- There is something to tell of the source: a byte waits; the transmitter is empty, which it always is.
+abbrev pub present : Port → Source → Bool
+present p receiver = some (p .waiting)
+present p transmitter = true
+
+-- ---- How often a call raises, from the port before it
+
+-- THR is written: in the loop the byte comes back, if there is room; on the line it is sent. Bytes come over the line, and some are taken.
+abbrev pub thrTells : Port → Source → Bool
+thrTells p receiver = inLoop p && hasRoom p
+thrTells p transmitter = not (inLoop p)
+
+abbrev pub inputTells : Port → List ℕ → Source → Bool
+inputTells p bytes receiver = not (inLoop p) && (some bytes && hasRoom p)
+inputTells p bytes transmitter = false
+
+-- Of which sources a call has to tell. Offset 0 is THR and 1 is IER while the divisor is closed; a write of IER tells of whatever is present.
+abbrev pub tells : Port → Op → Source → Bool
+tells p (read offset) s = false
+tells p (write offset v) s = cond (eqb offset 0) (not (isOpen p) && thrTells p s) (eqb offset 1 && (not (isOpen p) && present p s))
+tells p (input bytes) s = inputTells p bytes s
+tells p room s = false
+
+-- It raises once for each of these that is enabled after it and was not marked before it.
+abbrev pub due : Port → Op → Source → Bool
+due p o s = tells p o s && (enabled (step p o .port) s && not (marked p s))
+
+abbrev pub raisesBy : Port → Op → ℕ
+raisesBy p o = cond (due p o receiver) 1 0 + cond (due p o transmitter) 1 0
+
+-- A write of IER raises once for each source that is present, that the value enables, and that was not marked.
+abbrev pub enablesNew : Port → ℕ → Source → Bool
+enablesNew p v s = present p s && (isEnabled (ierStored v) (kindOf s) && not (marked p s))
+
+-- ---- What is marked and raised
 
 -- 1 where the source is not marked in the first port and is in the second, else 0.
 abbrev pub newly : Port → Port → Source → ℕ
@@ -55,12 +92,10 @@ pub record Untold (p : Port) : Type 0 where
   pub unmarked : marked p receiver ≡ false
 
 -- The operations after which that can be so though it was not so before: the identification register is read and the bytes stay; a byte is read and
--- others stay; the enable register is written while bytes wait. By the manual received data stays pending while a byte waits, and is signalled as soon as
--- it is enabled: DIFFERENCES, "serial-forgotten-data" and "serial-quiet-enable".
+-- others stay. By the manual received data stays pending while a byte waits: DIFFERENCES, "serial-forgotten-data".
 pub data Hole (p : Port) : Op → Type 0 where
   identified : Hole p (read 2)
   read-one : 2 ≤ length (p .waiting) → Hole p (read 0)
-  enabled-late : {v : ℕ} → enabled p receiver ≡ false → Hole p (write 1 v)
 
 -- Some operation of the run is one of them.
 pub data MeetsHole : Port → List Op → Type 0 where

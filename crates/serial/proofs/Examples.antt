@@ -7,7 +7,7 @@ use Prim.Native.Nat.{ℕ, zero, suc}
 use Rattle.serial.specs.Interrupts.{ierStored, mark, unmark, isDue, announce, iirRead}
 use Rattle.serial.specs.LineStatus.{lsrReady, lsrAfterRead}
 use Rattle.serial.specs.Modem.{isLoop, msrRead}
-use Rattle.serial.specs.Port.{Port, Input, fresh, addressed, readRegister, readOf, receives, writeLine, writeRegister, writeOf, inputOf}
+use Rattle.serial.specs.Port.{Port, Input, fresh, addressed, readRegister, readOf, receives, writeIer, writeLine, writeRegister, writeOf, inputOf}
 
 -- read an offset; write a value at an offset; input from the line
 data Access : Type 0 where
@@ -59,9 +59,11 @@ record Worked : Type 0 where
   returned :
       F (w 1 0x01 ∷ w 4 0x10 ∷ w 0 7 ∷ w 0 8 ∷ r 0 ∷ r 0 ∷ r 0 ∷ [])
       ≡ sent [] 0 ∷ sent [] 0 ∷ sent [] 1 ∷ sent [] 0 ∷ reply 7 0 ∷ reply 8 0 ∷ reply 0 0 ∷ []
-  -- a byte goes out, with one interrupt
-  sends : F (w 1 0x02 ∷ w 0 0x41 ∷ w 0 0x42 ∷ r 2 ∷ []) ≡ sent [] 0 ∷ sent (0x41 ∷ []) 1 ∷ sent (0x42 ∷ []) 0 ∷ reply 0xc2 0 ∷ []
+  -- the transmitter is empty as it is enabled; a byte goes out, with one interrupt
+  sends : F (w 1 0x02 ∷ r 2 ∷ w 0 0x41 ∷ w 0 0x42 ∷ r 2 ∷ []) ≡ sent [] 1 ∷ reply 0xc2 0 ∷ sent (0x41 ∷ []) 1 ∷ sent (0x42 ∷ []) 0 ∷ reply 0xc2 0 ∷ []
+  -- both are enabled while a byte waits, with two interrupts; then off and on again, with none, since both are marked
+  enabled : F (b (0x61 ∷ []) ∷ w 1 0x03 ∷ w 1 0x00 ∷ w 1 0x03 ∷ r 2 ∷ []) ≡ taken 1 0 ∷ sent [] 2 ∷ sent [] 0 ∷ sent [] 0 ∷ reply 0xc6 0 ∷ []
 
 worked : Worked
-unfolding answersOf answerOf countdown addressed readRegister writeRegister receives writeLine inputOf ierStored mark unmark isDue announce iirRead lsrReady lsrAfterRead isLoop msrRead
-worked = record { fresh = refl; fetched = refl; filled = refl; looped = refl; divided = refl; returned = refl; sends = refl }
+unfolding answersOf answerOf countdown addressed readRegister writeRegister receives writeIer writeLine inputOf ierStored mark unmark isDue announce iirRead lsrReady lsrAfterRead isLoop msrRead
+worked = record { fresh = refl; fetched = refl; filled = refl; looped = refl; divided = refl; returned = refl; sends = refl; enabled = refl }

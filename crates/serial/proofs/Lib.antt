@@ -7,5 +7,6 @@ pub mod Answering
 pub mod Reading
 pub mod Receiving
 pub mod Sending
+pub mod Enabling
 pub mod Bounds
 pub mod Examples

@@ -5,7 +5,7 @@ use mathlib.Core.List.{List, [], _∷_}
 use Prim.Native.Nat.{ℕ, _≤_}
 use native.Mathlib.Omega.{arith}
 use lib.ListN.{length, set}
-use Rattle.serial.specs.Port.{Port, Settings, fresh, withSettings, withReceiver}
+use Rattle.serial.specs.Port.{Port, Settings, fresh, withSettings, withReceiver, putIer}
 use Rattle.serial.specs.Ring.{queue}
 use Rattle.serial.specs.Layout.{capacity, startOf, countOf, portOf}
 use Rattle.serial.specs.Calls.{Begins}
@@ -58,6 +58,13 @@ module _ (regs pos ring : List ℕ) (n : length regs ≡ 9) where
   pub marks : (iir : ℕ) → portOf (set regs 2 iir) pos ring ≡ withReceiver p iir (p .lsr) (p .waiting)
   unfolding portOf
   marks iir = nine (λ l. let q = portOf l pos ring in portOf (set l 2 iir) pos ring ≡ withReceiver q iir (q .lsr) (q .waiting)) (λ a b c d e f g h i. refl) regs n
+
+  -- IER and the marks
+  pub enabled : (ier iir : ℕ) → portOf (set (set regs 1 ier) 2 iir) pos ring ≡ withReceiver (withSettings p (putIer (p .settings) ier)) iir (p .lsr) (p .waiting)
+  unfolding portOf
+  enabled ier iir =
+      nine (λ l. let q = portOf l pos ring in portOf (set (set l 1 ier) 2 iir) pos ring ≡ withReceiver (withSettings q (putIer (q .settings) ier)) iir (q .lsr) (q .waiting))
+      (λ a b c d e f g h i. refl) regs n
 
   pub receiver : (iir lsr : ℕ) (pos′ ring′ : List ℕ) {waiting : List ℕ} → queue capacity ring′ (startOf pos′) (countOf pos′) ≡ waiting
       → portOf (set (set regs 2 iir) 5 lsr) pos′ ring′ ≡ withReceiver p iir lsr waiting

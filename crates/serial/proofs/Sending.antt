@@ -5,13 +5,13 @@ use mathlib.Core.Bool.{true, false}
 use mathlib.Core.List.{List, [], _∷_}
 use Prim.Native.Nat.{ℕ, _+_, _*_, _≤_, _<_}
 use lib.ListN.{length, set, length-set}
-use Rattle.serial.specs.Interrupts.{transmitterEmpty, ierStored}
-use Rattle.serial.specs.Port.{Port, Settings, Register, RBR-THR, LCR, MCR, SCR, isOpen, inLoop, addressed, withSettings, stores, putIer, putLcr, putMcr, putScr, putDll, putDlm, writeLine, writeLoop, writeRegister, writeOf}
+use Rattle.serial.specs.Interrupts.{transmitterEmpty}
+use Rattle.serial.specs.Port.{Port, Settings, Register, RBR-THR, IER, LCR, MCR, SCR, isOpen, inLoop, addressed, withSettings, stores, putLcr, putMcr, putScr, putDll, putDlm, writeIer, writeLine, writeLoop, writeRegister, writeOf}
 use Rattle.serial.specs.Layout.{portOf}
 use Rattle.serial.specs.Calls.{Writes}
 use Rattle.serial.specs.Inside.{Announces}
 use Rattle.serial.proofs.Registers.{setting, marks}
-use Rattle.serial.proofs.Addressing.{at-dll, at-dlm, at-ier, unwritten}
+use Rattle.serial.proofs.Addressing.{at-dll, at-dlm, unwritten}
 use Rattle.serial.proofs.Answering.{as-it-was, registers-alone}
 
 module _ (regs pos ring : List ℕ) where
@@ -27,42 +27,38 @@ module _ (regs pos ring : List ℕ) where
 
   -- A setting is stored at place k: the first `refl` says which register it is, the second that it lies there.
   module _ (n : length regs ≡ 9) (offset v : ℕ) where
-    stored : (k w : ℕ) (put : Settings → ℕ → Settings) {register : Register} → addressed (isOpen p) offset ≡ register → writeRegister p register v ≡ stores p (put (p .settings) w)
-        → ((a b c d e f g h i : ℕ) → let l = a ∷ b ∷ c ∷ d ∷ e ∷ f ∷ g ∷ h ∷ i ∷ [] in portOf (set l k w) pos ring ≡ withSettings (portOf l pos ring) (put (portOf l pos ring .settings) w))
-        → Writes (λ q. writeOf q offset v) regs pos ring (set regs k w) pos ring 0
-    stored k w put a e t = rw (a, e) (registers-alone n (length-set regs _ _ ∙ n) (setting regs pos ring n k put w t) refl)
+    stored : (k : ℕ) (put : Settings → ℕ → Settings) {register : Register} → addressed (isOpen p) offset ≡ register → writeRegister p register v ≡ stores p (put (p .settings) v)
+        → ((a b c d e f g h i : ℕ) → let l = a ∷ b ∷ c ∷ d ∷ e ∷ f ∷ g ∷ h ∷ i ∷ [] in portOf (set l k v) pos ring ≡ withSettings (portOf l pos ring) (put (portOf l pos ring .settings) v))
+        → Writes (λ q. writeOf q offset v) regs pos ring (set regs k v) pos ring 0
+    stored k put a e t = rw (a, e) (registers-alone n (length-set regs _ _ ∙ n) (setting regs pos ring n k put v t) refl)
 
-    abbrev At : ℕ → ℕ → Type 0
-    At k w = Writes (λ q. writeOf q offset v) regs pos ring (set regs k w) pos ring 0
+    abbrev At : ℕ → Type 0
+    At k = Writes (λ q. writeOf q offset v) regs pos ring (set regs k v) pos ring 0
 
-    pub stores-dll : isOpen p ≡ true → offset ≡ 0 → At 0 v
+    pub stores-dll : isOpen p ≡ true → offset ≡ 0 → At 0
     unfolding portOf writeRegister
-    stores-dll o e = stored 0 v putDll (at-dll _ _ o e) refl (λ a b c d e f g h i. refl)
+    stores-dll o e = stored 0 putDll (at-dll _ _ o e) refl (λ a b c d e f g h i. refl)
 
-    pub stores-dlm : isOpen p ≡ true → offset < 2 → (offset ≡ 0 → ⊥) → At 8 v
+    pub stores-dlm : isOpen p ≡ true → offset < 2 → (offset ≡ 0 → ⊥) → At 8
     unfolding portOf writeRegister
-    stores-dlm o h e = stored 8 v putDlm (at-dlm _ _ o h e) refl (λ a b c d e f g h i. refl)
+    stores-dlm o h e = stored 8 putDlm (at-dlm _ _ o h e) refl (λ a b c d e f g h i. refl)
 
-    pub stores-ier : isOpen p ≡ false → offset < 2 → (offset ≡ 0 → ⊥) → (w : ℕ) → w ≡ ierStored v → At 1 w
-    unfolding portOf writeRegister
-    stores-ier o h e w s = stored 1 w putIer (at-ier _ _ o h e) (rw s) (λ a b c d e f g h i. refl)
-
-    pub stores-lcr : offset ≡ 3 → At 3 v
+    pub stores-lcr : offset ≡ 3 → At 3
     unfolding portOf writeRegister addressed
-    stores-lcr e = stored 3 v putLcr {register = LCR} (rw e) refl (λ a b c d e f g h i. refl)
+    stores-lcr e = stored 3 putLcr {register = LCR} (rw e) refl (λ a b c d e f g h i. refl)
 
-    pub stores-mcr : offset ≡ 4 → At 4 v
+    pub stores-mcr : offset ≡ 4 → At 4
     unfolding portOf writeRegister addressed
-    stores-mcr e = stored 4 v putMcr {register = MCR} (rw e) refl (λ a b c d e f g h i. refl)
+    stores-mcr e = stored 4 putMcr {register = MCR} (rw e) refl (λ a b c d e f g h i. refl)
 
-    pub stores-scr : offset ≡ 7 → At 7 v
+    pub stores-scr : offset ≡ 7 → At 7
     unfolding portOf writeRegister addressed
-    stores-scr e = stored 7 v putScr {register = SCR} (rw e) refl (λ a b c d e f g h i. refl)
+    stores-scr e = stored 7 putScr {register = SCR} (rw e) refl (λ a b c d e f g h i. refl)
 
   pub stores-nothing : (offset v : ℕ) → 2 ≤ offset → (offset ≡ 3 → ⊥) → (offset ≡ 4 → ⊥) → (offset ≡ 7 → ⊥) → Writes (λ q. writeOf q offset v) regs pos ring regs pos ring 0
   stores-nothing offset v h a b c = rw (unwritten (isOpen p) offset p v h a b c) (as-it-was refl refl)
 
-  -- THR, by a call of its own.
+  -- THR and IER, by calls of their own.
   pub sends : (offset v r : ℕ) {regs′ pos′ ring′ : List ℕ} → addressed (isOpen p) offset ≡ RBR-THR → inLoop p ≡ false → Writes (λ q. writeLine q v) regs pos ring regs′ pos′ ring′ r
       → Writes (λ q. writeOf q offset v) regs pos ring regs′ pos′ ring′ r
   unfolding writeRegister
@@ -72,3 +68,8 @@ module _ (regs pos ring : List ℕ) where
       → Writes (λ q. writeOf q offset v) regs pos ring regs′ pos′ ring′ r
   unfolding writeRegister
   loops offset v r a o h = rw (a, o) h
+
+  pub enables : (offset v r : ℕ) {regs′ pos′ ring′ : List ℕ} → addressed (isOpen p) offset ≡ IER → Writes (λ q. writeIer q v) regs pos ring regs′ pos′ ring′ r
+      → Writes (λ q. writeOf q offset v) regs pos ring regs′ pos′ ring′ r
+  unfolding writeRegister
+  enables offset v r a h = rw a h

@@ -45,8 +45,9 @@ unmark iir kind = let left = bitAnd iir (0xff - kind .markedBy) in cond (eqb lef
 unfoldable pub isDue : ℕ → ℕ → Kind → Bool
 isDue ier iir kind = isEnabled ier kind && not (isMarked iir kind)
 
--- To announce a kind: where it is due it is marked, and the interrupt is raised once. A kind that is marked is not raised again.
--- The manual's interrupt pin is a level, high while a kind is enabled and pending: DIFFERENCES, "serial-forgotten-data".
+-- To announce a kind: where it is due it is marked, and the interrupt is raised once. A kind that is marked is not raised again, also where it was
+-- disabled meanwhile. The manual's interrupt pin is a level, high while a kind is enabled and pending: DIFFERENCES, "serial-forgotten-data" and
+-- "serial-quiet-enable".
 pub record Announced : Type 0 where
   pub iir : ℕ
   pub raises : ℕ

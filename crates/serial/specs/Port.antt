@@ -1,11 +1,11 @@
 -- The 16550 serial port: its registers, the bytes that wait in its receiver, and what each access does.
-use Prim.Native.Nat.{ℕ, _-_, min}
+use Prim.Native.Nat.{ℕ, _+_, _-_, min}
 use mathlib.Core.List.{List, [], _∷_, _++_, tail}
 use mathlib.Core.Bool.{Bool, true, false, cond}
 use lib.ListN.{length, take}
 use lib.Dec.{ltb, eqb}
 use Rattle.common.specs.Bits.{on}
-use Rattle.common.specs.Lists.{firstOr0}
+use Rattle.common.specs.Lists.{some, firstOr0}
 use Rattle.serial.specs.Interrupts.{receivedData, transmitterEmpty, ierStored, nonePending, unmark, announce, iirRead, iirAfterRead}
 use Rattle.serial.specs.LineStatus.{lsrReady, lsrAfterRead}
 use Rattle.serial.specs.Modem.{isLoop, msrRead}
@@ -162,11 +162,21 @@ putDlm s v = record { ier = s .ier; lcr = s .lcr; mcr = s .mcr; scr = s .scr; dl
 abbrev pub stores : Port → Settings → Out
 stores p s = becomes (withSettings p s)
 
--- IER: the value is stored and nothing is announced: DIFFERENCES, "serial-quiet-enable" and "serial-enable-transmitter". FCR: nothing happens:
--- DIFFERENCES, "serial-fifo-off", "serial-fifo-empty" and "serial-trigger-level". LSR, MSR and the offsets beyond are not written.
+-- IER: the value is stored, and under it what there is to announce is announced: received data if bytes wait, then the empty transmitter, which it
+-- always is. By the manual setting 0x02 signals an empty transmitter; here it is announced also where 0x02 was set before: DIFFERENCES,
+-- "serial-transmitter-again". A mark that was kept while its kind was disabled is not raised again: DIFFERENCES, "serial-quiet-enable".
+unfoldable pub writeIer : Port → ℕ → Out
+writeIer p value =
+    let s = putIer (p .settings) (ierStored value) in
+    let a = cond (some (p .waiting)) (announce (s .ier) (p .iir) receivedData) (record { iir = p .iir; raises = 0 }) in
+    let b = announce (s .ier) (a .iir) transmitterEmpty in
+    record { port = withReceiver (withSettings p s) (b .iir) (p .lsr) (p .waiting); reply = 0; sent = []; raises = a .raises + b .raises }
+
+-- FCR: nothing happens: DIFFERENCES, "serial-fifo-off", "serial-fifo-empty" and "serial-trigger-level". LSR, MSR and the offsets beyond are not
+-- written.
 unfoldable pub writeRegister : Port → Register → ℕ → Out
 writeRegister p RBR-THR v = writeThr p v
-writeRegister p IER v = stores p (putIer (p .settings) (ierStored v))
+writeRegister p IER v = writeIer p v
 writeRegister p IIR-FCR v = becomes p
 writeRegister p LCR v = stores p (putLcr (p .settings) v)
 writeRegister p MCR v = stores p (putMcr (p .settings) v)

@@ -2,9 +2,13 @@
 use crate::memory;
 use crate::memory::IER;
 use crate::memory::IIR;
+use crate::ring;
 ghost use mathlib.Core.Path.{_≡_};
+ghost use mathlib.Core.List.{List};
 ghost use Prim.Native.Nat.{ℕ};
 ghost use Rattle.serial.specs.Interrupts.{receivedData, transmitterEmpty, ierStored, mark, unmark, isDue, iirRead};
+ghost use Rattle.serial.specs.Port.{writeIer};
+ghost use Rattle.serial.specs.Calls.{Writes};
 ghost use Rattle.serial.specs.Inside.{Announces};
 
 // No interrupt is pending. A read of IIR leaves it so.
@@ -13,7 +17,7 @@ const NONE_PENDING: u8 = 0x01;
 pub const AFTER_READ: u8 = NONE_PENDING;
 
 // IER keeps four bits.
-pub fn ier_stored(value: u8) -> u8
+fn ier_stored(value: u8) -> u8
     ensures { λ r. ⌜ r ≡ ierStored value ⌝ }
 {
     value & 0x0f
@@ -70,6 +74,19 @@ pub fn announce_transmitter_empty(regs: &mut [u8; 9]) -> u32
     ensures { λ r. ⌜ Announces (now (regs .entry)) transmitterEmpty (now (regs .exit)) r ⌝ }
 {
     announce(regs, 0x02, 0x02)
+}
+
+// IER: what there is to announce is announced under the new value. 512 for each interrupt to raise.
+pub fn write_ier(regs: &mut [u8; 9], pos: &[u32; 2], value: u8) -> u32
+    ensures { λ r. ⌜ ((ring : List ℕ) → Writes (λ p. writeIer p value) (now (regs .entry)) (now (pos .entry)) ring (now (regs .exit)) (now (pos .entry)) ring r) ⌝ }
+{
+    memory::nine(regs);
+    regs[IER] = ier_stored(value);
+    if ring::count(pos) == 0 {
+        return 512 * announce_transmitter_empty(regs);
+    }
+    let received = announce_received_data(regs);
+    512 * (received + announce_transmitter_empty(regs))
 }
 
 // What a read of IIR answers: the FIFOs are always on.

@@ -127,8 +127,7 @@ pub extern "C" fn serialpost_serial_write(
             }
             return transmitter::write_line(regs, value);
         }
-        regs[IER] = interrupts::ier_stored(value);
-        return 0;
+        return interrupts::write_ier(regs, pos, value);
     }
     match offset {
         3 => {

@@ -2,8 +2,8 @@
 -- Assumes nothing.
 use mathlib.Core.Path.{sym, _∙_}
 use Rattle.serial.specs.Layout.{portOf}
-use Rattle.serial.proofs.Addressing.{at-data}
-use Rattle.serial.proofs.Sending.{stores-dll, stores-dlm, stores-ier, stores-lcr, stores-mcr, stores-scr, stores-nothing, sends, loops}
+use Rattle.serial.proofs.Addressing.{at-data, at-ier}
+use Rattle.serial.proofs.Sending.{stores-dll, stores-dlm, stores-lcr, stores-mcr, stores-scr, stores-nothing, sends, loops, enables}
 use borrow.Author.Needs.{needs}
 use Rattle.serial.proofs.serialpost_serial_write.Statement.{statement}
 use Rattle.serial.proofs.serialpost_serial_write.Tie as tie
@@ -51,32 +51,29 @@ returns-4 : tie.Need-returns-4
 unfolding portOf
 returns-4 c = let a = c .before .before .before .before .before .before .before .before .before .before .before .before .args in sends (a .regs .now) (a .pos .now) (a .ring .now) (a .offset) _ _ (at-data _ _ (sym (c .before .before .before .before .before .before .before .is-open .ensures) ∙ c .before .before .before .before .before .before .if2 .left) (c .before .before .before .before .before .if4 .taken)) (sym (c .before .before .before .is-loop .ensures) ∙ c .before .before .if5 .left) (c .write-line .ensures _ _)
 
-ier-stored-requires : tie.Need-ier-stored-requires
-ier-stored-requires c κs = search needs
-
-element-write-regs-3 : tie.Need-element-write-regs-3
-element-write-regs-3 c = search needs
+write-ier-requires : tie.Need-write-ier-requires
+write-ier-requires c κs = search needs
 
 returns-5 : tie.Need-returns-5
 unfolding portOf
-returns-5 c = let a = c .before .before .before .before .before .before .before .before .args in stores-ier (a .regs .now) (a .pos .now) (a .ring .now) (c .before .before .before .before .before .before .nine .ensures) _ _ (sym (c .before .before .before .is-open .ensures) ∙ c .before .before .if2 .left) (c .before .before .before .before .before .if1 .taken) (c .before .if4 .left) _ (c .ier-stored .ensures)
+returns-5 c = let a = c .before .before .before .before .before .before .before .before .before .before .args in enables (a .regs .now) (a .pos .now) (a .ring .now) (a .offset) _ _ (at-ier _ _ (sym (c .before .before .before .before .before .is-open .ensures) ∙ c .before .before .before .before .if2 .left) (c .before .before .before .before .before .before .before .if1 .taken) (c .before .before .before .if4 .left)) (c .write-ier .ensures _)
 
-element-write-regs-4 : tie.Need-element-write-regs-4
-element-write-regs-4 c = search needs
+element-write-regs-3 : tie.Need-element-write-regs-3
+element-write-regs-3 c = search needs
 
 returns-6 : tie.Need-returns-6
 unfolding portOf
 returns-6 c = let a = c .before .before .before .before .args in stores-lcr (a .regs .now) (a .pos .now) (a .ring .now) (c .before .before .nine .ensures) _ _ (c .match .keys1)
 
-element-write-regs-5 : tie.Need-element-write-regs-5
-element-write-regs-5 c = search needs
+element-write-regs-4 : tie.Need-element-write-regs-4
+element-write-regs-4 c = search needs
 
 returns-7 : tie.Need-returns-7
 unfolding portOf
 returns-7 c = let a = c .before .before .before .before .args in stores-mcr (a .regs .now) (a .pos .now) (a .ring .now) (c .before .before .nine .ensures) _ _ (c .match .keys2)
 
-element-write-regs-6 : tie.Need-element-write-regs-6
-element-write-regs-6 c = search needs
+element-write-regs-5 : tie.Need-element-write-regs-5
+element-write-regs-5 c = search needs
 
 returns-8 : tie.Need-returns-8
 unfolding portOf
@@ -103,13 +100,12 @@ serialpost-serial-write-spec =
     returns-3
     write-line-requires
     returns-4
-    ier-stored-requires
-    element-write-regs-3
+    write-ier-requires
     returns-5
-    element-write-regs-4
+    element-write-regs-3
     returns-6
-    element-write-regs-5
+    element-write-regs-4
     returns-7
-    element-write-regs-6
+    element-write-regs-5
     returns-8
     returns-9)
