@@ -25,9 +25,9 @@ take_replay() {
     replay_devices=$(IFS=, && echo "$*")
 }
 
-# Builds the judge and finds out about the original: whether it is there, and on which lists it is to
-# agree with the account. Since 0.8.2 a write of the interrupt enable register announces what is
-# pending, which the account does not follow.
+# Builds the judge and finds out about the original: whether it is there, and how old it is. Since 0.8.2 a
+# write of the interrupt enable register announces what is pending. An older original is compared with
+# the account of its own ways, and with REPLAY on lists that leave such writes out.
 prepare() {
     cd "$root" || exit 2
     if ! make -s -f compare/Makefile; then
@@ -38,13 +38,15 @@ prepare() {
     rm -rf "$lists"
     mkdir -p "$lists"
     original=
+    account=account
     domain=
     if [ ! -x "$tools"/original ]; then
         echo "the original's source is not at hand (VM_SUPERIO_SRC names its folder): going on without"
         return
     fi
     original=yes
-    if printf 'serial\nw 01 02\n' | "$tools"/original | grep -qx 'w -- 1'; then
+    if printf 'serial\nw 01 02\n' | "$tools"/original | grep -qx 'w -- 0'; then
+        account='account --quiet-enable'
         domain=--quiet-enable
     fi
 }
@@ -83,10 +85,7 @@ judge() {
     local what=$1
     shift
     if [ -n "$original" ]; then
-        agree "$what" original account "$@" $domain
-        if [ -n "$domain" ]; then
-            agree "$what" original 'account --enabling-announces' "$@"
-        fi
+        agree "$what" original "$account" "$@"
     fi
     if [ -n "$replay" ]; then
         agree "$what" account "$replay" "$@" --devices "$replay_devices"

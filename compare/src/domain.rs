@@ -1,9 +1,9 @@
-//! On which operations the account and vm-superio 0.8.2 must agree.
+//! On which operations vm-superio 0.8.2 and the versions before it agree.
 //!
 //! Since 0.8.2 a write of the interrupt enable register announces what is pending: received data if
-//! bytes wait, then transmitter empty. The account only stores the register. A write that enables
+//! bytes wait, then transmitter empty. Before, the register was only stored. A write that enables
 //! nothing of the transmitter's while no byte waits is the same in both; all others are left out of a
-//! list that is to be compared with 0.8.2.
+//! list on which devices that announce are compared with an older original.
 
 use crate::account::Account;
 use crate::driver::{Current, Driver};

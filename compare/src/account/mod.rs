@@ -10,9 +10,9 @@ use crate::devices::Devices;
 
 #[derive(Clone, Copy, Default)]
 pub struct Account {
-    /// Whether a write of the interrupt enable register announces what is pending, as it does since
-    /// 0.8.2. Without it the register is only stored, as in every version before.
-    pub enabling_announces: bool,
+    /// Whether a write of the interrupt enable register is only stored, as in every version before
+    /// 0.8.2. Since then it announces what is pending.
+    pub quiet_enable: bool,
 }
 
 impl Devices for Account {
@@ -21,7 +21,7 @@ impl Devices for Account {
     type I8042 = i8042::I8042;
 
     fn serial(&mut self) -> serial::Serial {
-        serial::Serial::fresh(self.enabling_announces)
+        serial::Serial::fresh(self.quiet_enable)
     }
 
     fn clock(&mut self) -> clock::Clock {

@@ -91,15 +91,15 @@ const WIRES: [(u8, u8); 4] = [(0x02, 0x10), (0x01, 0x20), (0x04, 0x40), (0x08, 0
 pub struct Serial {
     registers: [u8; 9],
     pub(crate) buffer: VecDeque<u8>,
-    enabling_announces: bool,
+    quiet_enable: bool,
 }
 
 impl Serial {
-    pub(crate) fn fresh(enabling_announces: bool) -> Self {
+    pub(crate) fn fresh(quiet_enable: bool) -> Self {
         Serial {
             registers: FRESH,
             buffer: VecDeque::new(),
-            enabling_announces,
+            quiet_enable,
         }
     }
 
@@ -160,7 +160,7 @@ impl Serial {
 
     fn enable(&mut self, value: u8) -> Raised {
         self.set(Ier, value & 0x0f);
-        if !self.enabling_announces {
+        if self.quiet_enable {
             return 0;
         }
         let received = if self.buffer.is_empty() {

@@ -7,17 +7,17 @@ use judge::account::Account;
 use judge::command_line::{arguments, finish, Trouble};
 use judge::driver::serve;
 
-const USAGE: &str = "usage: account [--enabling-announces] < LIST > ANSWERS";
+const USAGE: &str = "usage: account [--quiet-enable] < LIST > ANSWERS";
 
 fn run() -> Result<ExitCode, Trouble> {
     let arguments = arguments();
     let arguments: Vec<&str> = arguments.iter().map(String::as_str).collect();
-    let enabling_announces = match arguments[..] {
+    let quiet_enable = match arguments[..] {
         [] => false,
-        ["--enabling-announces"] => true,
+        ["--quiet-enable"] => true,
         _ => return Err(Trouble(USAGE.to_string())),
     };
-    let account = Account { enabling_announces };
+    let account = Account { quiet_enable };
     serve(account, io::stdin().lock(), io::stdout().lock())?;
     Ok(ExitCode::SUCCESS)
 }

@@ -10,7 +10,7 @@ use judge::difference::{Pair, Verdict};
 
 const USAGE: &str = "usage: compare [--limit SECONDS] LEFT RIGHT LIST
   LEFT, RIGHT  `original`, `account`, `recorded:FILE`, or the program to run; its arguments may
-               follow it in the same word, as in 'account --enabling-announces'
+               follow it in the same word, as in 'account --quiet-enable'
   LIST         a file, or - for standard input
   --limit      how long an answerer may take for a list (120)";
 
