@@ -8,10 +8,10 @@
  * its answer, and you do it.
  *
  * C cannot check these, so they are yours to keep:
- * - a pointer is not null, not even `input` where `length` is 0; it is aligned for its type, and points to as
+ * - a pointer is not null, not even where the length beside it is 0; it is aligned for its type, and points to as
  *   many elements as are shown here;
- * - `input` points to `length` bytes;
- * - what one call is lent does not overlap: the state's parts, `bytes` and `input` lie apart;
+ * - an array with a length beside it has that many elements;
+ * - what one call is lent does not overlap: the state's parts and each array lie apart;
  * - nothing else touches what a call is lent while it runs. Two states may be used at the same time.
  */
 #ifndef SERIALPOST_H
@@ -73,6 +73,16 @@ uint32_t serialpost_serial_input(uint8_t regs[9], uint32_t pos[2], uint8_t ring[
 
 /* Answers how many bytes an input could put into the ring: 0 to 64. Refuses nothing. */
 uint32_t serialpost_serial_room(const uint32_t pos[2]);
+
+/* A whole run in one call: `ops` has three bytes for each operation, its kind first.
+ *   0 offset any      a read
+ *   1 offset value    a write
+ *   2 low high        an input of low + 256 * high bytes; those of all inputs lie in `inputs` one behind another
+ *   3 any any         the room
+ * Answers true and puts into `answers` the answer of each. Refused, with false: what is no such run (another kind, an
+ * operation cut short, bytes of the inputs missing or left over), and a run with more operations than answers. */
+bool serialpost_serial_play(uint8_t regs[9], uint32_t pos[2], uint8_t ring[64], const uint8_t *ops, size_t ops_length,
+                            const uint8_t *inputs, size_t inputs_length, uint32_t *answers, size_t answers_length);
 
 /* The answer to a read or a write, taken apart. */
 #define SERIALPOST_REPLY(answer) ((uint8_t)((answer) & 0xff))

@@ -1,22 +1,11 @@
-/*
- * Uses all of serialpost.h as a host would, then throws random states and arguments at every function.
- * Prints a line for each part that passes; the first failure ends the program.
- */
-#define _DEFAULT_SOURCE
+/* Uses all of serialpost.h as a host would. */
+#include "expect.h"
 #include <serialpost.h>
-#include <stdio.h>
-#include <stdlib.h>
 #include <string.h>
-#include <sys/mman.h>
-#include <unistd.h>
 
-#define EXPECT(condition) \
-    do { \
-        if (!(condition)) { \
-            fprintf(stderr, "%s:%d: not so: %s\n", __FILE__, __LINE__, #condition); \
-            exit(1); \
-        } \
-    } while (0)
+/* docs/PERFORMANCE.md says what a device takes. */
+_Static_assert(sizeof(struct serialpost_serial) == 84, "a port");
+_Static_assert(sizeof(struct serialpost_clock) == 24, "a clock");
 
 /* ---- The serial port as a host uses it */
 
@@ -51,6 +40,8 @@ static void a_fresh_port(void)
     static const uint8_t shown[] = { 0x00, 0x00, 0xc1, 0x03, 0x08, 0x60, 0xb0, 0x00, 0x00 };
     for (uint8_t offset = 0; offset < sizeof shown; offset++)
         EXPECT(read_at(&port, offset) == shown[offset]);
+    write_at(&port, SERIALPOST_LCR, 0x83);
+    EXPECT(read_at(&port, 0) == 0x0c && read_at(&port, 1) == 0x00);
     EXPECT(serialpost_serial_room(port.pos) == SERIALPOST_SERIAL_CAPACITY);
 }
 
@@ -105,6 +96,21 @@ static void the_loop_returns_what_is_written(void)
     EXPECT(read_at(&port, SERIALPOST_RBR) == 0);
     write_at(&port, SERIALPOST_MCR, 0x13);
     EXPECT(read_at(&port, SERIALPOST_MSR) == 0x30);
+}
+
+static void a_run_is_the_calls_one_after_another(void)
+{
+    struct serialpost_serial port = fresh_port(), same = port;
+    static const uint8_t ops[] = { 1, 1, 1, 2, 3, 0, 3, 0, 0, 0, 5, 0, 0, 0, 0 };
+    uint32_t answers[5], word[5];
+    EXPECT(serialpost_serial_play(SERIALPOST_PARTS(&port), ops, sizeof ops, (const uint8_t *)"abc", 3, answers, 5));
+    word[0] = write_at(&same, SERIALPOST_IER, 1);
+    word[1] = type_in(&same, "abc", 3);
+    word[2] = serialpost_serial_room(same.pos);
+    word[3] = read_at(&same, SERIALPOST_LSR);
+    word[4] = read_at(&same, SERIALPOST_RBR);
+    EXPECT(memcmp(answers, word, sizeof word) == 0);
+    EXPECT(memcmp(&port, &same, sizeof port) == 0);
 }
 
 /* ---- The clock and the reset controller */
@@ -174,111 +180,6 @@ static void one_write_resets(void)
         }
 }
 
-/* ---- Any bytes, any arguments. What is lent lies against a page that may not be touched, first behind it, then
- * before it, so that one byte too many ends the program, read or written. */
-
-static uint64_t seed = 1;
-
-static uint32_t any(void)
-{
-    seed += 0x9e3779b97f4a7c15;
-    uint64_t mixed = (seed ^ (seed >> 32)) * 0xd6e8feb86659fd93;
-    return (uint32_t)((mixed ^ (mixed >> 32)) >> 8);
-}
-
-static void any_bytes(void *memory, size_t size)
-{
-    for (size_t i = 0; i < size; i++)
-        ((uint8_t *)memory)[i] = (uint8_t)any();
-}
-
-/* Some memory of its own, `size` bytes at the end or at the start of a page between two forbidden ones. */
-static void *fenced(size_t size, bool at_end)
-{
-    size_t page = (size_t)sysconf(_SC_PAGESIZE);
-    uint8_t *pages = mmap(NULL, 3 * page, PROT_NONE, MAP_PRIVATE | MAP_ANONYMOUS, -1, 0);
-    EXPECT(pages != MAP_FAILED && mprotect(pages + page, page, PROT_READ | PROT_WRITE) == 0);
-    return at_end ? pages + 2 * page - size : pages + page;
-}
-
-static void any_port(bool at_end)
-{
-    uint8_t *regs = fenced(9, at_end), *ring = fenced(64, at_end), *input = fenced(200, at_end);
-    uint32_t *pos = fenced(8, at_end);
-    for (int round = 0; round < 200000; round++) {
-        uint8_t regs0[9], ring0[64];
-        uint32_t pos0[2];
-        any_bytes(regs, 9);
-        any_bytes(ring, 64);
-        any_bytes(pos, 8);
-        if (any() % 4)
-            pos[1] %= 67;
-        memcpy(regs0, regs, 9);
-        memcpy(ring0, ring, 64);
-        memcpy(pos0, pos, 8);
-        uint32_t room = serialpost_serial_room(pos);
-        EXPECT(room == (pos[1] < 64 ? 64 - pos[1] : 0));
-        uint8_t offset = (uint8_t)(any() % 4 ? any() % 9 : any());
-        size_t length = any() % 200;
-        uint32_t answer;
-        switch (any() % 3) {
-        case 0:
-            answer = serialpost_serial_read(regs, pos, ring, offset);
-            EXPECT(answer <= 0xff);
-            EXPECT(memcmp(ring, ring0, 64) == 0);
-            if (offset >= 8)
-                EXPECT(answer == 0 && memcmp(regs, regs0, 9) == 0 && memcmp(pos, pos0, 8) == 0);
-            break;
-        case 1:
-            answer = serialpost_serial_write(regs, pos, ring, offset, (uint8_t)any());
-            EXPECT(SERIALPOST_RAISES(answer) <= 1);
-            EXPECT(SERIALPOST_SENDS(answer) || SERIALPOST_BYTE(answer) == 0);
-            if (offset >= 8)
-                EXPECT(answer == 0 && memcmp(regs, regs0, 9) == 0 && memcmp(pos, pos0, 8) == 0);
-            break;
-        default:
-            answer = serialpost_serial_input(regs, pos, ring, input + (at_end ? 200 - length : 0), length);
-            EXPECT(SERIALPOST_TAKEN(answer) <= room && SERIALPOST_TAKEN(answer) <= length);
-            EXPECT(SERIALPOST_INPUT_RAISES(answer) <= 1);
-            if (SERIALPOST_FULL(answer))
-                EXPECT(room == 0 && answer == 0x10000 && memcmp(regs, regs0, 9) == 0 && memcmp(pos, pos0, 8) == 0
-                       && memcmp(ring, ring0, 64) == 0);
-            else
-                EXPECT(serialpost_serial_room(pos) == room - SERIALPOST_TAKEN(answer));
-            break;
-        }
-        if (any() % 100 == 0) {
-            serialpost_serial_init(regs, pos);
-            EXPECT(serialpost_serial_room(pos) == 64);
-        }
-    }
-}
-
-static void any_clock(bool at_end)
-{
-    struct serialpost_clock *clock = fenced(sizeof *clock, at_end), clock0;
-    uint8_t *bytes = fenced(4, at_end), bytes0[4];
-    for (int round = 0; round < 200000; round++) {
-        any_bytes(clock, sizeof *clock);
-        any_bytes(bytes, 4);
-        clock0 = *clock;
-        memcpy(bytes0, bytes, 4);
-        uint16_t offset = (uint16_t)(any() % 4 ? any() % 9 * 4 : any() % 2 ? 0xfdc + any() % 40 : any());
-        uint64_t time = (uint64_t)any() << 32 | any();
-        if (any() % 2) {
-            if (!serialpost_clock_read(clock, offset, time, bytes))
-                EXPECT(memcmp(bytes, bytes0, 4) == 0);
-            EXPECT(memcmp(clock, &clock0, sizeof clock0) == 0);
-        } else {
-            if (!serialpost_clock_write(clock, offset, time, bytes))
-                EXPECT(memcmp(clock, &clock0, sizeof clock0) == 0);
-            EXPECT(memcmp(bytes, bytes0, 4) == 0);
-        }
-        if (any() % 100 == 0)
-            serialpost_clock_init(clock);
-    }
-}
-
 int main(void)
 {
     a_fresh_port();
@@ -286,15 +187,10 @@ int main(void)
     output_is_sent();
     a_full_port_refuses();
     the_loop_returns_what_is_written();
+    a_run_is_the_calls_one_after_another();
     a_clock_runs();
     a_clock_names_its_words();
     a_clock_refuses();
     one_write_resets();
-    puts("as a host uses it");
-    for (int at_end = 0; at_end < 2; at_end++) {
-        any_port(at_end);
-        any_clock(at_end);
-    }
-    puts("any bytes, any arguments");
     return 0;
 }

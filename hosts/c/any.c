@@ -1,0 +1,263 @@
+/*
+ * Any bytes, any arguments: throws random states and arguments at every function. What is lent lies against a page that
+ * may not be touched, behind it in a first round and before it in a second, so that one byte too many, read or written,
+ * ends the program.
+ */
+#define _DEFAULT_SOURCE
+#include "expect.h"
+#include <serialpost.h>
+#include <string.h>
+#include <sys/mman.h>
+#include <unistd.h>
+
+#define ROUNDS 200000
+
+static uint64_t seed = 1;
+
+static uint32_t any(void)
+{
+    seed += 0x9e3779b97f4a7c15;
+    uint64_t mixed = (seed ^ (seed >> 32)) * 0xd6e8feb86659fd93;
+    return (uint32_t)((mixed ^ (mixed >> 32)) >> 8);
+}
+
+static bool once_in(uint32_t times)
+{
+    return any() % times == 0;
+}
+
+static void any_bytes(void *memory, size_t size)
+{
+    for (size_t i = 0; i < size; i++)
+        ((uint8_t *)memory)[i] = (uint8_t)any();
+}
+
+/* ---- Memory between two forbidden pages, at the end of its own or at its start */
+
+struct fenced {
+    uint8_t *page;
+    size_t page_size;
+    bool at_end;
+};
+
+static struct fenced fence(bool at_end)
+{
+    size_t size = (size_t)sysconf(_SC_PAGESIZE);
+    uint8_t *pages = mmap(NULL, 3 * size, PROT_NONE, MAP_PRIVATE | MAP_ANONYMOUS, -1, 0);
+    EXPECT(pages != MAP_FAILED && mprotect(pages + size, size, PROT_READ | PROT_WRITE) == 0);
+    return (struct fenced){ pages + size, size, at_end };
+}
+
+/* The `size` bytes of it that lie against the fence. */
+static void *lent(struct fenced memory, size_t size)
+{
+    return memory.at_end ? memory.page + memory.page_size - size : memory.page;
+}
+
+/* ---- The serial port */
+
+struct port {
+    uint8_t *regs, *ring;
+    uint32_t *pos;
+};
+
+static struct port fenced_port(bool at_end)
+{
+    return (struct port){ lent(fence(at_end), 9), lent(fence(at_end), 64), lent(fence(at_end), 8) };
+}
+
+static void any_state(struct port port)
+{
+    any_bytes(port.regs, 9);
+    any_bytes(port.ring, 64);
+    any_bytes(port.pos, 8);
+    if (!once_in(4))
+        port.pos[1] %= 67;
+}
+
+static struct serialpost_serial copy(struct port port)
+{
+    struct serialpost_serial copied;
+    memcpy(copied.regs, port.regs, 9);
+    memcpy(copied.ring, port.ring, 64);
+    memcpy(copied.pos, port.pos, 8);
+    return copied;
+}
+
+static bool is(struct port port, const struct serialpost_serial *other)
+{
+    return memcmp(port.regs, other->regs, 9) == 0 && memcmp(port.ring, other->ring, 64) == 0
+           && memcmp(port.pos, other->pos, 8) == 0;
+}
+
+static uint8_t any_offset(void)
+{
+    return (uint8_t)(once_in(4) ? any() : any() % 9);
+}
+
+static void any_read(struct port port)
+{
+    struct serialpost_serial before = copy(port);
+    uint8_t offset = any_offset();
+    uint32_t answer = serialpost_serial_read(port.regs, port.pos, port.ring, offset);
+    EXPECT(answer <= 0xff);
+    EXPECT(memcmp(port.ring, before.ring, 64) == 0);
+    EXPECT(offset < 8 || (answer == 0 && is(port, &before)));
+}
+
+static void any_write(struct port port)
+{
+    struct serialpost_serial before = copy(port);
+    uint8_t offset = any_offset();
+    uint32_t answer = serialpost_serial_write(port.regs, port.pos, port.ring, offset, (uint8_t)any());
+    EXPECT(SERIALPOST_RAISES(answer) <= 1);
+    EXPECT(SERIALPOST_SENDS(answer) || SERIALPOST_BYTE(answer) == 0);
+    EXPECT(offset < 8 || (answer == 0 && is(port, &before)));
+}
+
+static void any_input(struct port port, struct fenced input)
+{
+    struct serialpost_serial before = copy(port);
+    size_t length = any() % 200;
+    uint32_t room = serialpost_serial_room(port.pos);
+    uint32_t answer = serialpost_serial_input(port.regs, port.pos, port.ring, lent(input, length), length);
+    EXPECT(SERIALPOST_TAKEN(answer) <= room && SERIALPOST_TAKEN(answer) <= length);
+    EXPECT(SERIALPOST_INPUT_RAISES(answer) <= 1);
+    EXPECT(serialpost_serial_room(port.pos) == room - SERIALPOST_TAKEN(answer));
+    EXPECT(!SERIALPOST_FULL(answer) || (room == 0 && answer == 0x10000));
+    EXPECT(SERIALPOST_TAKEN(answer) > 0 || is(port, &before));
+}
+
+static void any_access(bool at_end)
+{
+    struct port port = fenced_port(at_end);
+    struct fenced input = fence(at_end);
+    for (int round = 0; round < ROUNDS; round++) {
+        any_state(port);
+        EXPECT(serialpost_serial_room(port.pos) == (port.pos[1] < 64 ? 64 - port.pos[1] : 0));
+        switch (any() % 3) {
+        case 0:
+            any_read(port);
+            break;
+        case 1:
+            any_write(port);
+            break;
+        default:
+            any_input(port, input);
+            break;
+        }
+        if (once_in(100)) {
+            serialpost_serial_init(port.regs, port.pos);
+            EXPECT(serialpost_serial_room(port.pos) == 64);
+        }
+    }
+}
+
+/* ---- Runs */
+
+/* Writes a run of so many operations, seldom with a kind that there is not. Answers how many bytes its inputs have. */
+static size_t any_run(uint8_t *ops, size_t operations)
+{
+    size_t bytes = 0;
+    any_bytes(ops, 3 * operations);
+    for (uint8_t *op = ops; op < ops + 3 * operations; op += 3) {
+        op[0] = (uint8_t)(once_in(100) ? any() : any() % 4);
+        if (op[0] == 2) {
+            op[1] %= 70;
+            op[2] = 0;
+            bytes += op[1];
+        }
+    }
+    return bytes;
+}
+
+/* One operation of a run by the call that is for it. */
+static uint32_t by_itself(struct serialpost_serial *port, const uint8_t *op, const uint8_t *input)
+{
+    switch (op[0]) {
+    case 0:
+        return serialpost_serial_read(SERIALPOST_PARTS(port), op[1]);
+    case 1:
+        return serialpost_serial_write(SERIALPOST_PARTS(port), op[1], op[2]);
+    case 2:
+        return serialpost_serial_input(SERIALPOST_PARTS(port), input, op[1]);
+    default:
+        return serialpost_serial_room(port->pos);
+    }
+}
+
+static void any_play(bool at_end)
+{
+    struct port port = fenced_port(at_end);
+    struct fenced ops = fence(at_end), inputs = fence(at_end), answers = fence(at_end);
+    int played = 0;
+    for (int round = 0; round < ROUNDS / 4; round++) {
+        size_t operations = any() % 20, cut = once_in(8), room = once_in(8) ? any() % 20 : operations + any() % 20;
+        uint8_t *run = lent(ops, 3 * operations + cut);
+        size_t length = any_run(run, operations);
+        if (once_in(8))
+            length = any() % 200;
+        const uint8_t *input = lent(inputs, length);
+        uint32_t *words = lent(answers, room * sizeof *words), before[40];
+        memcpy(before, words, room * sizeof *words);
+        any_state(port);
+        struct serialpost_serial same = copy(port);
+        if (serialpost_serial_play(port.regs, port.pos, port.ring, run, 3 * operations + cut, input, length, words, room)) {
+            for (size_t i = 0; i < operations; i++) {
+                EXPECT(words[i] == by_itself(&same, run + 3 * i, input));
+                input += run[3 * i] == 2 ? run[3 * i + 1] : 0;
+                before[i] = words[i];
+            }
+            played++;
+        }
+        EXPECT(is(port, &same));
+        EXPECT(memcmp(words, before, room * sizeof *words) == 0);
+    }
+    EXPECT(played > ROUNDS / 16 && played < ROUNDS / 5);
+}
+
+/* ---- The clock */
+
+static uint16_t any_clock_offset(void)
+{
+    switch (any() % 4) {
+    case 0:
+        return (uint16_t)any();
+    case 1:
+        return (uint16_t)(0xfdc + any() % 40);
+    default:
+        return (uint16_t)(any() % 9 * 4);
+    }
+}
+
+static void any_clock(bool at_end)
+{
+    struct serialpost_clock *clock = lent(fence(at_end), sizeof *clock), before;
+    uint8_t *bytes = lent(fence(at_end), 4), bytes_before[4];
+    for (int round = 0; round < ROUNDS; round++) {
+        any_bytes(clock, sizeof *clock);
+        any_bytes(bytes, 4);
+        before = *clock;
+        memcpy(bytes_before, bytes, 4);
+        uint64_t time = (uint64_t)any() << 40 ^ any();
+        bool reads = once_in(2);
+        bool valid = reads ? serialpost_clock_read(clock, any_clock_offset(), time, bytes)
+                           : serialpost_clock_write(clock, any_clock_offset(), time, bytes);
+        EXPECT((valid && !reads) || memcmp(clock, &before, sizeof before) == 0);
+        EXPECT((valid && reads) || memcmp(bytes, bytes_before, 4) == 0);
+        if (once_in(100)) {
+            serialpost_clock_init(clock);
+            EXPECT(clock->load == 0 && clock->offset_low == 0 && clock->offset_high == 0);
+        }
+    }
+}
+
+int main(void)
+{
+    for (int at_end = 0; at_end < 2; at_end++) {
+        any_access(at_end);
+        any_play(at_end);
+        any_clock(at_end);
+    }
+    return 0;
+}
