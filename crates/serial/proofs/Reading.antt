@@ -2,17 +2,17 @@
 -- Assumes nothing.
 use mathlib.Core.Path.{_≡_, refl, sym, _∙_}
 use mathlib.Core.List.{List, [], _∷_}
-use Prim.Native.Nat.{ℕ, _+_, _-_, _%_}
+use Prim.Native.Nat.{ℕ, zero, suc, _+_, _-_, _%_, _≤_}
 use native.Mathlib.Omega.{arith}
 use lib.ListN.{length, getD, set, length-set}
-use lib.Seq.{getD-set-other}
+use lib.Seq.{getD-set-other, set-getD}
 use Rattle.serial.specs.Interrupts.{receivedData, unmark, iirRead, iirAfterRead}
 use Rattle.serial.specs.LineStatus.{lsrAfterRead}
 use Rattle.serial.specs.Port.{Port, Register, isOpen, addressed, replies, readRegister, readRbr, readOf}
 use Rattle.serial.specs.Ring.{queue}
 use Rattle.serial.specs.Layout.{capacity, startOf, countOf, portOf}
 use Rattle.serial.specs.Calls.{Reads}
-use Rattle.serial.specs.Inside.{WaitAfterRead}
+use Rattle.serial.specs.Inside.{WaitAfterRead, Taken}
 use Rattle.serial.proofs.RingLaws.{queue-length, queue-first}
 use Rattle.serial.proofs.Registers.{marks, receiver, placed}
 use Rattle.serial.proofs.Answering.{as-it-was, registers-alone, other-count}
@@ -29,6 +29,17 @@ module _ (regs pos ring : List ℕ) where
   -- The same at the offsets that DLAB does not touch: `refl` says which register lies at n.
   pub answers-at : (offset r n : ℕ) {v : ℕ} → offset ≡ n → readRegister p (addressed (isOpen p) n) ≡ replies p v → r ≡ v → Reads (λ q. readOf q offset) regs pos ring regs pos r
   answers-at offset r n k e b = rw k (answers n r refl e b)
+
+  -- LCR, MCR and LSR, each at its offset.
+  pub answers-kept : (offset r : ℕ) → 3 ≤ offset → offset ≤ 5 → r ≡ getD regs offset 0 → Reads (λ q. readOf q offset) regs pos ring regs pos r
+  unfolding portOf addressed readRegister
+  answers-kept (suc (suc (suc zero))) r l h b = answers-at 3 r 3 refl refl b
+  answers-kept (suc (suc (suc (suc zero)))) r l h b = answers-at 4 r 4 refl refl b
+  answers-kept (suc (suc (suc (suc (suc zero))))) r l h b = answers-at 5 r 5 refl refl b
+  answers-kept (suc (suc (suc (suc (suc (suc offset)))))) r l h b = absurd (omega arith)
+  answers-kept (suc (suc zero)) r l h b = absurd (omega arith)
+  answers-kept (suc zero) r l h b = absurd (omega arith)
+  answers-kept zero r l h b = absurd (omega arith)
 
   -- A read of a register by a call of its own.
   pub hands-on : (offset r : ℕ) {register : Register} {regs′ pos′ : List ℕ} → addressed (isOpen p) offset ≡ register → Reads (λ q. readRegister q register) regs pos ring regs′ pos′ r
@@ -53,13 +64,18 @@ module _ (regs pos ring : List ℕ) where
           rw (with-lsr 0 e [] refl)
           (registers-alone n (length-set (set regs 2 u) _ _ ∙ length-set regs _ _ ∙ n) (receiver regs pos ring n u _ pos ring refl ∙ rw (none, w)) (rw none))
 
-      -- s is the start once the first byte, b, has left
-      pub reads-first : length pos ≡ 2 → (s b : ℕ) → s ≡ (startOf pos + 1) % capacity → b ≡ getD ring (startOf pos % capacity) 0 → (k ≡ 0 → ⊥) → WaitAfterRead (set regs 2 u) (k - 1) regs′
-          → Reads readRbr regs pos ring regs′ (set (set pos 0 s) 1 (k - 1)) b
+      pub reads-first : {pos′ : List ℕ} (b : ℕ) → Taken pos ring k pos′ b → (k ≡ 0 → ⊥) → WaitAfterRead (set regs 2 u) (k - 1) regs′ → Reads readRbr regs pos ring regs′ pos′ b
       unfolding portOf
-      reads-first m s b f v z e =
+      reads-first b t z e =
+          let s : ℕ = (startOf pos + 1) % capacity in
           let left : List ℕ = queue capacity ring s (k - 1) in
-          let there = placed pos s (k - 1) m (omega arith) in
-          let lies : queue capacity ring (startOf pos) (countOf pos) ≡ b ∷ left = rw (sym c, v, f) (queue-first capacity ring (startOf pos) k z) in
+          let there = placed pos s (k - 1) (t .long) (omega arith) in
+          let lies : queue capacity ring (startOf pos) (countOf pos) ≡ b ∷ left = rw (sym c, t .byte) (queue-first capacity ring (startOf pos) k z) in
           let holds = receiver regs pos ring n u (lsrAfterRead left (p .lsr)) (set (set pos 0 s) 1 (k - 1)) ring {waiting = left} (rw (there .0, there .1)) in
-          rw (with-lsr (k - 1) e left (queue-length capacity ring s (k - 1))) (other-count (holds ∙ rw (lies, w)) refl (λ same. z (omega (arith, there .1))) (rw lies (omega arith)))
+          rw (t .moved, with-lsr (k - 1) e left (queue-length capacity ring s (k - 1))) (other-count (holds ∙ rw (lies, w)) refl (λ same. z (omega (arith, there .1))) (rw lies (omega arith)))
+
+    -- RBR where received data is not marked: IIR stays
+    pub reads-unmarked : (k b : ℕ) → k ≡ countOf pos → unmark (p .iir) receivedData ≡ p .iir → {regs′ pos′ : List ℕ} → Taken pos ring k pos′ b → (k ≡ 0 → ⊥) → WaitAfterRead regs (k - 1) regs′
+        → Reads readRbr regs pos ring regs′ pos′ b
+    unfolding portOf
+    reads-unmarked k b c u t z e = reads-first (p .iir) (sym u) k c b t z (rw (set-getD regs 2 0) e)

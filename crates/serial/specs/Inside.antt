@@ -1,11 +1,12 @@
 -- What the functions of the code promise each other. No reader has to believe it: it is proved, and no entry point speaks of it.
-use Prim.Native.Nat.{ℕ, _+_, _-_, _≤_}
+use Prim.Native.Nat.{ℕ, _+_, _-_, _%_, _≤_}
 use mathlib.Core.Path.{_≡_}
 use mathlib.Core.List.{List, _++_}
 use lib.ListN.{length, getD, set}
 use Rattle.serial.specs.Interrupts.{Kind, receivedData, announce}
 use Rattle.serial.specs.LineStatus.{lsrReady, lsrAfterRead}
 use Rattle.serial.specs.Ring.{queue}
+use Rattle.serial.specs.Layout.{capacity, startOf}
 
 -- A kind is announced: IER lies at 1, IIR at 2.
 pub record Announces (regs : List ℕ) (kind : Kind) (regs′ : List ℕ) (r : ℕ) : Type 0 where
@@ -23,6 +24,12 @@ pub record Received (regs pos : List ℕ) (n : ℕ) (regs′ pos′ : List ℕ) 
 -- A byte has been read and n wait.
 abbrev pub WaitAfterRead : List ℕ → ℕ → List ℕ → Type 0
 WaitAfterRead regs n regs′ = (left : List ℕ) → length left ≡ n → regs′ ≡ set regs 5 (lsrAfterRead left (getD regs 5 0))
+
+-- Of n bytes that wait the first, b, has left: the start lies at 0 of the positions, the number at 1.
+pub record Taken (pos ring : List ℕ) (n : ℕ) (pos′ : List ℕ) (b : ℕ) : Type 0 where
+  pub long : length pos ≡ 2
+  pub moved : pos′ ≡ set (set pos 0 ((startOf pos + 1) % capacity)) 1 (n - 1)
+  pub byte : b ≡ getD ring (startOf pos % capacity) 0
 
 -- Bytes have been put behind the n that lie from `start` on, so that m lie there; the rest of the storage is as it was.
 pub record Put (capacity : ℕ) (storage : List ℕ) (start n : ℕ) (bytes storage′ : List ℕ) (m : ℕ) : Type 0 where

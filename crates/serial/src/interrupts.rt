@@ -5,6 +5,7 @@ use crate::memory::IIR;
 use crate::ring;
 ghost use mathlib.Core.Path.{_≡_};
 ghost use mathlib.Core.List.{List};
+ghost use mathlib.Core.Bool.{true};
 ghost use Prim.Native.Nat.{ℕ};
 ghost use Rattle.serial.specs.Interrupts.{receivedData, transmitterEmpty, ierStored, mark, unmark, isDue, iirRead};
 ghost use Rattle.serial.specs.Port.{writeIer};
@@ -39,6 +40,17 @@ pub fn unmark_received_data(iir: u8) -> u8
         return NONE_PENDING;
     }
     left
+}
+
+// Whether there is nothing to unmark: IIR has one of its usual values without received data. It may
+// say no where there is nothing either.
+pub fn is_unmarked(iir: u8) -> bool
+    ensures { λ r. ⌜ (r ≡ true → unmark iir receivedData ≡ iir) ⌝ }
+{
+    if iir == 0 {
+        return false;
+    }
+    iir < 0x04
 }
 
 // A kind is enabled and not marked yet.

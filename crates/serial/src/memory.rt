@@ -1,6 +1,7 @@
 // Where each register lies in the lent memory, and how long that memory is.
 ghost use mathlib.Core.Path.{_≡_};
-ghost use lib.ListN.{length};
+ghost use Prim.Native.Nat.{_≤_};
+ghost use lib.ListN.{length, getD};
 ghost use Rattle.serial.specs.Layout.{capacity};
 
 // A register lies at its offset; the divisor's two bytes share offsets and lie at the ends.
@@ -39,6 +40,15 @@ pub fn whole(ring: &[u8; 64])
     ensures { λ r. ⌜ length (now (ring .entry)) ≡ capacity ⌝ }
 {
     let all: &[u8] = ring;
+}
+
+// The register that lies at an offset.
+pub fn at(regs: &[u8; 9], offset: u8) -> u8
+    requires { ⌜ offset ≤ 8 ⌝ }
+    ensures { λ r. ⌜ r ≡ getD (now (regs .entry)) offset 0 ⌝ }
+{
+    let i = offset as usize;
+    regs[i]
 }
 
 pub fn wide(byte: u8) -> u32

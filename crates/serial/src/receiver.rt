@@ -9,23 +9,39 @@ ghost use Rattle.serial.specs.Port.{readRbr, writeLoop};
 ghost use Rattle.serial.specs.Calls.{Reads, Writes};
 ghost use Rattle.serial.specs.Inside.{Received};
 
-// RBR: the first byte leaves.
+// RBR: the first byte leaves. What is usual comes first, since a guest fetches its input byte by byte:
+// received data is not marked, and more bytes wait, or none does.
 pub fn read_rbr(regs: &mut [u8; 9], pos: &mut [u32; 2], ring: &[u8; 64]) -> u32
     ensures { λ r. ⌜ Reads readRbr (now (regs .entry)) (now (pos .entry)) (now (ring .entry)) (now (regs .exit)) (now (pos .exit)) r ⌝ }
 {
+    let n = pos[1];
+    if interrupts::is_unmarked(regs[IIR]) {
+        memory::nine(regs);
+        if ring::several(n) {
+            return memory::wide(ring::take(pos, ring, n));
+        }
+        if n == 1 {
+            line_status::after_read(regs, 0);
+            return memory::wide(ring::take(pos, ring, n));
+        }
+        return read_any_rbr(regs, pos, ring);
+    }
+    read_any_rbr(regs, pos, ring)
+}
+
+// The same, whatever is marked and however many bytes wait.
+fn read_any_rbr(regs: &mut [u8; 9], pos: &mut [u32; 2], ring: &[u8; 64]) -> u32
+    ensures { λ r. ⌜ Reads readRbr (now (regs .entry)) (now (pos .entry)) (now (ring .entry)) (now (regs .exit)) (now (pos .exit)) r ⌝ }
+{
     memory::nine(regs);
-    memory::two(pos);
     let n = ring::count(pos);
     regs[IIR] = interrupts::unmark_received_data(regs[IIR]);
     if n == 0 {
         line_status::after_read(regs, 0);
         return 0;
     }
-    let start = pos[0];
-    pos[0] = ring::next(start);
-    pos[1] = n - 1;
     line_status::after_read(regs, n - 1);
-    memory::wide(ring::first(ring, start))
+    memory::wide(ring::take(pos, ring, n))
 }
 
 // The bytes put into the ring wait from now on, `n` in all: data is ready, received data is

@@ -2,9 +2,10 @@
 use crate::memory;
 ghost use mathlib.Core.Path.{_≡_};
 ghost use mathlib.Core.List.{[], _∷_};
+ghost use mathlib.Core.Bool.{true};
 ghost use Prim.Native.Nat.{_+_, _-_, _%_, _≤_, _<_, min};
 ghost use lib.ListN.{length, getD, take};
-ghost use Rattle.serial.specs.Inside.{Put};
+ghost use Rattle.serial.specs.Inside.{Put, Taken};
 ghost use Rattle.serial.specs.Layout.{capacity, countOf};
 
 pub const CAPACITY: u32 = 64;
@@ -43,17 +44,39 @@ fn place(start: u32, n: u32) -> usize
 }
 
 // The start once the first byte has left.
-pub fn next(start: u32) -> u32
+fn next(start: u32) -> u32
     ensures { λ r. ⌜ r ≡ (start + 1) % capacity ⌝ }
 {
     (start % CAPACITY + 1) % CAPACITY
 }
 
 // The first byte that waits.
-pub fn first(ring: &[u8; 64], start: u32) -> u8
+fn first(ring: &[u8; 64], start: u32) -> u8
     ensures { λ r. ⌜ r ≡ getD (now (ring .entry)) (start % capacity) 0 ⌝ }
 {
     ring[place(start, 0)]
+}
+
+// Of n bytes that wait the first leaves.
+pub fn take(pos: &mut [u32; 2], ring: &[u8; 64], n: u32) -> u8
+    requires { ⌜ 1 ≤ n ⌝ }
+    ensures { λ r. ⌜ Taken (now (pos .entry)) (now (ring .entry)) n (now (pos .exit)) r ⌝ }
+{
+    memory::two(pos);
+    let start = pos[0];
+    pos[0] = next(start);
+    pos[1] = n - 1;
+    first(ring, start)
+}
+
+// Whether n stands for itself and more than one byte waits.
+pub fn several(n: u32) -> bool
+    ensures { λ r. ⌜ (r ≡ true → (2 ≤ n) × (n ≤ capacity)) ⌝ }
+{
+    if n < 2 {
+        return false;
+    }
+    n <= CAPACITY
 }
 
 // One byte goes behind the n that lie from `start` on.

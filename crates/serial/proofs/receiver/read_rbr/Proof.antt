@@ -1,92 +1,100 @@
 -- Each answer is a law of `Reading`.
 -- Assumes nothing.
-use mathlib.Core.Path.{_∙_}
-use Rattle.serial.specs.Layout.{portOf}
-use Rattle.serial.proofs.Reading.{reads-none, reads-first}
+use mathlib.Core.Path.{_≡_, _∙_}
+use native.Mathlib.Omega.{arith}
+use Prim.Native.Nat.{_-_, _≤_}
+use lib.ListN.{getD}
+use Rattle.serial.specs.Interrupts.{receivedData, unmark}
+use Rattle.serial.specs.Layout.{capacity, portOf}
+use Rattle.serial.proofs.Leaves.{some-left}
+use Rattle.serial.proofs.Reading.{reads-unmarked}
 use borrow.Author.Needs.{needs}
 use Rattle.serial.proofs.receiver.read_rbr.Statement.{statement}
 use Rattle.serial.proofs.receiver.read_rbr.Tie as tie
 
+element-copy-out-n : tie.Need-element-copy-out-n
+element-copy-out-n c = search needs
+
+element-copy-out-is-unmarked : tie.Need-element-copy-out-is-unmarked
+element-copy-out-is-unmarked c = search needs
+
+is-unmarked-requires : tie.Need-is-unmarked-requires
+is-unmarked-requires c κs = search needs
+
 nine-requires : tie.Need-nine-requires
 nine-requires c κs = search needs
 
-two-requires : tie.Need-two-requires
-two-requires c κs = search needs
+several-requires : tie.Need-several-requires
+several-requires c κs = search needs
 
-count-requires : tie.Need-count-requires
-count-requires c κs = search needs
+-- what the two tests tell
+unmarked : (c : tie.Then1) → let iir = getD (c .before .before .before .before .args .regs .now) 2 0 in unmark iir receivedData ≡ iir
+unmarked c = c .before .is-unmarked .ensures (c .if1 .taken)
 
-element-copy-out-unmark-received-data : tie.Need-element-copy-out-unmark-received-data
-element-copy-out-unmark-received-data c = search needs
+several : (c : tie.Then2) → let n = getD (c .before .before .before .before .before .before .before .before .args .pos .now) 1 0 in (2 ≤ n) × (n ≤ capacity)
+several c = c .before .several .ensures (c .if2 .taken)
 
-unmark-received-data-requires : tie.Need-unmark-received-data-requires
-unmark-received-data-requires c κs = search needs
+take-requires : tie.Need-take-requires
+take-requires c κs = let s = several (c .before) in omega (arith, s .0)
 
-element-write-regs : tie.Need-element-write-regs
-element-write-regs c = search needs
-
-after-read-requires : tie.Need-after-read-requires
-after-read-requires c κs = search needs
+wide-requires : tie.Need-wide-requires
+wide-requires c κs = search needs
 
 returns : tie.Need-returns
 unfolding portOf
 returns c =
     let a = c .before .before .before .before .before .before .before .before .before .before .before .args in
-    reads-none (a .regs .now) (a .pos .now) (a .ring .now) (c .before .before .before .before .before .before .before .before .before .nine .ensures) _ (c .before .before .before .unmark-received-data .ensures) _ (c .before .before .before .before .before .count .ensures) (c .before .before .if1 .taken) (c .after-read .ensures)
+    let s = several (c .before .before .before) in
+    reads-unmarked (a .regs .now) (a .pos .now) (a .ring .now) (c .before .before .before .before .before .nine .ensures) _ _ (omega (arith, s .1)) (unmarked (c .before .before .before .before .before .before .before)) (rw (c .wide .ensures) (c .before .take .ensures)) (λ z. omega (arith, s .0))
+    (some-left (a .regs .now) (getD (a .pos .now) 1 0 - 1) (λ z. omega (arith, s .0)))
 
-element-copy-out-start : tie.Need-element-copy-out-start
-element-copy-out-start c = search needs
+after-read-requires : tie.Need-after-read-requires
+after-read-requires c κs = search needs
 
-next-requires : tie.Need-next-requires
-next-requires c κs = search needs
+take-requires-2 : tie.Need-take-requires-2
+take-requires-2 c κs = search needs
 
-element-write-pos : tie.Need-element-write-pos
-element-write-pos c = search needs
-
-sub-pos : tie.Need-sub-pos
-sub-pos c = search needs
-
-element-write-pos-2 : tie.Need-element-write-pos-2
-element-write-pos-2 c = search needs
-
-sub-after-read : tie.Need-sub-after-read
-sub-after-read c = search needs
-
-after-read-requires-2 : tie.Need-after-read-requires-2
-after-read-requires-2 c κs = search needs
-
-first-requires : tie.Need-first-requires
-first-requires c κs = search needs
-
-wide-requires : tie.Need-wide-requires
-wide-requires c κs = search needs
+wide-requires-2 : tie.Need-wide-requires-2
+wide-requires-2 c κs = search needs
 
 returns-2 : tie.Need-returns-2
 unfolding portOf
 returns-2 c =
-    let a = c .before .before .before .before .before .before .before .before .before .before .before .before .before .before .before .args in
-    reads-first (a .regs .now) (a .pos .now) (a .ring .now) (c .before .before .before .before .before .before .before .before .before .before .before .before .before .nine .ensures) _ (c .before .before .before .before .before .before .before .unmark-received-data .ensures) _ (c .before .before .before .before .before .before .before .before .before .count .ensures) (c .before .before .before .before .before .before .before .before .before .before .before .two .ensures) _ _
-    (c .before .before .before .before .next .ensures) (c .wide .ensures ∙ c .before .first .ensures) (c .before .before .before .before .before .before .if1 .left) (c .before .before .after-read2 .ensures)
+    let a = c .before .before .before .before .before .before .before .before .before .before .before .before .before .before .args in
+    let n = getD (a .pos .now) 1 0 in
+    let one : n ≡ 1 = c .before .before .before .before .before .if3 .taken in
+    reads-unmarked (a .regs .now) (a .pos .now) (a .ring .now) (c .before .before .before .before .before .before .before .before .nine .ensures) n _ (omega (arith, one)) (unmarked (c .before .before .before .before .before .before .before .before .before .before)) (rw (c .wide2 .ensures) (c .before .take2 .ensures)) (λ z. omega (arith, one))
+    (rw one (c .before .before .before .after-read .ensures))
+
+read-any-rbr-requires : tie.Need-read-any-rbr-requires
+read-any-rbr-requires c κs = search needs
+
+returns-3 : tie.Need-returns-3
+returns-3 c = search needs
+
+read-any-rbr-requires-2 : tie.Need-read-any-rbr-requires-2
+read-any-rbr-requires-2 c κs = search needs
+
+returns-4 : tie.Need-returns-4
+returns-4 c = search needs
 
 pub read-rbr-spec : {M : Type 1} → statement M
 read-rbr-spec =
     tie.close
     (tie.spec
+    element-copy-out-n
+    element-copy-out-is-unmarked
+    is-unmarked-requires
     nine-requires
-    two-requires
-    count-requires
-    element-copy-out-unmark-received-data
-    unmark-received-data-requires
-    element-write-regs
-    after-read-requires
-    returns
-    element-copy-out-start
-    next-requires
-    element-write-pos
-    sub-pos
-    element-write-pos-2
-    sub-after-read
-    after-read-requires-2
-    first-requires
+    several-requires
+    take-requires
     wide-requires
-    returns-2)
+    returns
+    after-read-requires
+    take-requires-2
+    wide-requires-2
+    returns-2
+    read-any-rbr-requires
+    returns-3
+    read-any-rbr-requires-2
+    returns-4)
