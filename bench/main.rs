@@ -35,21 +35,20 @@ fn prepared<M: Machine>(workload: &Workload) -> M {
 }
 
 /// One run: short rounds in turn, so that whatever else the machine does hits all alike. Answers the medians over the
-/// rounds of our time for an operation, and of its ratios to the original inlined and behind a call.
-fn run(workload: &Workload) -> [f64; 3] {
+/// rounds of the ratios of our time to that of the original inlined and behind a call.
+fn run(workload: &Workload) -> [f64; 2] {
     let mut us: ours::Devices = prepared(workload);
     let mut inlined: inlined::Devices = prepared(workload);
     let mut called: called::Devices = prepared(workload);
-    let [mut times, mut to_inlined, mut to_called] = [vec![], vec![], vec![]];
+    let [mut to_inlined, mut to_called] = [vec![], vec![]];
     for _ in 0..workload.operations / workload.in_a_round {
         let mut sums = [0; 3];
         let time = nanoseconds(workload, &mut us, &mut sums[0]);
         to_inlined.push(time / nanoseconds(workload, &mut inlined, &mut sums[1]));
         to_called.push(time / nanoseconds(workload, &mut called, &mut sums[2]));
-        times.push(time / f64::from(workload.in_a_round));
         assert!(sums[0] == sums[1] && sums[0] == sums[2], "{sums:?}");
     }
-    [&mut times, &mut to_inlined, &mut to_called].map(|numbers| median(numbers))
+    [&mut to_inlined, &mut to_called].map(|numbers| median(numbers))
 }
 
 /// `middle (lowest to highest)` of the runs, and the middle.
@@ -97,18 +96,18 @@ fn instructions(who: &str, workload: &Workload) -> String {
 // ---- The table
 
 fn table() -> ExitCode {
-    println!("| operation | nanoseconds | of the original's time | of its time behind a call | instructions | the original's | behind a call |");
-    println!("|---|---|---|---|---|---|---|");
+    println!("| operation | of the original's time | of its time behind a call | instructions | the original's | behind a call |");
+    println!("|---|---|---|---|---|---|");
     let mut slowest = 0f64;
     for workload in &ALL {
-        let runs: Vec<[f64; 3]> = (0..RUNS).map(|_| run(workload)).collect();
+        let runs: Vec<[f64; 2]> = (0..RUNS).map(|_| run(workload)).collect();
         let column = |place: usize| spread(runs.iter().map(|run| run[place]).collect());
-        let [(time, _), (ratio, to_inlined), (_, to_called)] = [column(0), column(1), column(2)];
+        let [(ratio, to_inlined), (_, to_called)] = [column(0), column(1)];
         slowest = slowest.max(ratio);
         let [us, inlined, called] =
             ["ours", "inlined", "called"].map(|w| instructions(w, workload));
         println!(
-            "| {} | {time:.1} | {to_inlined} | {to_called} | {us} | {inlined} | {called} |",
+            "| {} | {to_inlined} | {to_called} | {us} | {inlined} | {called} |",
             workload.operation
         );
     }
