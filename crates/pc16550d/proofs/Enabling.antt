@@ -14,7 +14,7 @@ use Rattle.runs.proofs.Announcing.{ier-marks, ier-raises}
 use Rattle.pc16550d.specs.Chip.{Chip, pin, writeIer}
 use Rattle.pc16550d.specs.Chip as chip
 use Rattle.pc16550d.specs.Compare.{chipOf, enables, marks, Row, writes, serial-transmitter-again, serial-quiet-enable}
-use Rattle.pc16550d.proofs.Agreement.{level, pin-is, Signal, agrees, calm}
+use Rattle.pc16550d.proofs.Agreement.{level, pin-is, agrees}
 use Rattle.pc16550d.proofs.Writing.{WriteAgrees}
 
 -- The transmitter's interrupt after the write, on the device and on the chip. e, n: its kind was enabled, is now; m: its mark.
@@ -69,7 +69,9 @@ module _ (p : Port) (v : ℕ) where
   high : 0 < device.writeIer p v .raises → level after ≡ true
   unfolding isDue
   high h =
-      level-is ∙ raises-high (some (p .waiting)) (isEnabled (ierStored v) receivedData) (marks p receivedData) (isEnabled (ierStored v) transmitterEmpty) (marks p transmitterEmpty) (rw raises-are at h)
+      level-is
+      ∙ raises-high (some (p .waiting)) (isEnabled (ierStored v) receivedData) (marks p receivedData) (isEnabled (ierStored v) transmitterEmpty) (marks p transmitterEmpty)
+      (rw raises-are at h)
 
   -- Where the latch is the same and the device raises as the pin rises, the write agrees.
   same-chip : Latched (enables p transmitterEmpty) (isEnabled (ierStored v) transmitterEmpty) (marks p transmitterEmpty) → chipOf after ≡ next p v

@@ -1,18 +1,18 @@
 -- A write of IER tells of what is present; and how often each call raises.
 -- Assumes nothing.
-use mathlib.Core.Path.{_≡_, refl, sym, _∙_}
+use mathlib.Core.Path.{_≡_, refl, sym, ap, _∙_}
 use mathlib.Core.Bool.{Bool, true, false, cond, not, _&&_, false≢true, true≢false}
 use mathlib.Core.List.{List, [], _∷_, _++_}
 use Prim.Native.Nat.{ℕ, suc, _+_, _≤_}
 use native.Mathlib.Omega.{arith}
-use lib.ListN.{length, take}
+use lib.ListN.{length}
 use lib.Dec.{eqb}
-use borrow.Author.Tests.{ne-eqb}
+use borrow.Author.Tests.{eqb-true, ne-eqb}
 use Rattle.common.specs.Lists.{some}
-use Rattle.serial.specs.Interrupts.{receivedData, transmitterEmpty, ierStored, isEnabled, isMarked, Announced, announce}
-use Rattle.serial.specs.Port.{Register, RBR-THR, IER, IIR-FCR, LCR, MCR, LSR, MSR, SCR, DLL, DLM, beyond, addressed, Port, Out, Input, isOpen, inLoop, hasRoom, becomes, readRegister, readOf, receives, writeIer, writeLine, writeRegister, writeOf, takesNone, takesSome, inputOf}
+use Rattle.serial.specs.Interrupts.{receivedData, transmitterEmpty, ierStored, isEnabled, Announced, announce}
+use Rattle.serial.specs.Port.{Register, RBR-THR, IER, DLL, DLM, addressed, Port, Out, Input, isOpen, inLoop, hasRoom, becomes, readOf, receives, writeIer, writeLine, writeRegister, writeOf, takesNone, takesSome, inputOf}
 use Rattle.runs.specs.Run.{Op, read, write, input, room, raisesOf, didInput, step, run}
-use Rattle.runs.specs.Told.{Source, receiver, transmitter, kindOf, enabled, marked, present, thrTells, tells, due, raisesBy, enablesNew, Told}
+use Rattle.runs.specs.Told.{Source, receiver, transmitter, kindOf, marked, present, thrTells, tells, due, raisesBy, enablesNew, Told}
 use Rattle.runs.proofs.Rooms.{outcome, announced-marked, announced-keeps, announced-other, announced-raises}
 use Rattle.runs.proofs.Registers.{addressed-cases}
 use Rattle.runs.proofs.Effects.{read-cases}
@@ -149,3 +149,47 @@ kept-marks-are-quiet p v c k = rw (enabling-raises p v c) (omega (arith, none re
 
     none : (s : Source) → _≡_ {A = ℕ} (cond (enablesNew p v s) 1 0) 0
     none s = nothing (present p s) (isEnabled (ierStored v) (kindOf s)) (marked p s) (k s)
+
+-- ---- Twice at most, and only by a write of IER
+
+no-more : (t : Bool) → cond t 1 0 ≤ 1
+no-more true = omega arith
+no-more false = omega arith
+
+pub at-most-twice : (p : Port) (o : Op) → raisesOf (step p o .answer) ≤ 2
+at-most-twice p o = omega (arith, raises-exactly p o, no-more (due p o receiver), no-more (due p o transmitter))
+
+left-true : (a b : Bool) → (a && b) ≡ true → a ≡ true
+left-true true b h = refl
+left-true false b h = h
+
+right-true : (a b : Bool) → (a && b) ≡ true → b ≡ true
+right-true true b h = h
+right-true false b h = absurd (false≢true h)
+
+was-false : (t : Bool) → not t ≡ true → t ≡ false
+was-false true h = absurd (false≢true h)
+was-false false h = refl
+
+both-due : (a b : Bool) → cond a 1 0 + cond b 1 0 ≡ 2 → (a ≡ true) × (b ≡ true)
+both-due true true h = (refl, refl)
+both-due true false h = absurd (omega arith)
+both-due false true h = absurd (omega arith)
+both-due false false h = absurd (omega arith)
+
+tells-both : (p : Port) (o : Op) → tells p o receiver ≡ true → tells p o transmitter ≡ true → (v : ℕ) × (o ≡ write 1 v) × (isOpen p ≡ false)
+tells-both p (read offset) r t = absurd (false≢true r)
+tells-both p (write offset v) r t = go (eqb offset 0) (eqb offset 1) refl r t
+  where
+    go : (a b : Bool) → eqb offset 1 ≡ b → cond a (not (isOpen p) && thrTells p receiver) (b && (not (isOpen p) && present p receiver)) ≡ true
+        → cond a (not (isOpen p) && thrTells p transmitter) (b && (not (isOpen p) && true)) ≡ true → (u : ℕ) × (write offset v ≡ write 1 u) × (isOpen p ≡ false)
+    go true b e r t = absurd (true≢false (sym (left-true (inLoop p) (hasRoom p) (right-true (not (isOpen p)) (inLoop p && hasRoom p) r)) ∙ was-false (inLoop p) (right-true (not (isOpen p)) (not (inLoop p)) t)))
+    go false true e r t = (v, ap (λ (n : ℕ). write n v) (eqb-true offset 1 e), was-false (isOpen p) (left-true (not (isOpen p)) (present p receiver) r))
+    go false false e r t = absurd (false≢true r)
+tells-both p (input bytes) r t = absurd (false≢true t)
+tells-both p room r t = absurd (false≢true r)
+
+pub twice-by-enabling : (p : Port) (o : Op) → raisesOf (step p o .answer) ≡ 2 → (v : ℕ) × (o ≡ write 1 v) × (isOpen p ≡ false)
+twice-by-enabling p o h =
+    let d = both-due (due p o receiver) (due p o transmitter) (sym (raises-exactly p o) ∙ h) in
+    tells-both p o (left-true (tells p o receiver) _ (d .0)) (left-true (tells p o transmitter) _ (d .1))

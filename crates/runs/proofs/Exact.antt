@@ -1,7 +1,7 @@
 -- Every port that is `Reachable` is reached by a run of bytes from a fresh one: the definition says neither too little nor too much.
 -- Assumes nothing.
 use mathlib.Core.Path.{_≡_, refl, sym, ap, subst, _∙_}
-use mathlib.Core.Bool.{Bool, true, false, cond, not, _&&_, false≢true}
+use mathlib.Core.Bool.{Bool, true, false, cond, false≢true}
 use mathlib.Core.List.{List, [], _∷_, _++_}
 use Prim.Native.Nat.{ℕ, suc, _-_, _<_, _≤_, min}
 use native.Mathlib.Nat.{mod-eq-of-lt}
@@ -20,9 +20,9 @@ use mathlib.Core.Logic.{_↔_}
 use Rattle.runs.proofs.Effects.{run-on}
 use Rattle.runs.proofs.Reachable.{all-reachable}
 use Rattle.runs.specs.Run.{Op, read, write, input, step, run}
-use Rattle.runs.specs.Told.{Source, receiver, transmitter, kindOf, enabled}
+use Rattle.runs.specs.Told.{Source, receiver, transmitter, kindOf}
 use Rattle.runs.proofs.Rooms.{Outcome, raised, quiet, outcome}
-use Rattle.runs.specs.Reachable.{Bytes, OfBytes, AllOfBytes, Written, Marks, neither, onlyTransmitter, onlyReceiver, twoKinds, Unmarked, Reachable, Reached}
+use Rattle.runs.specs.Reachable.{Bytes, AllOfBytes, Written, Marks, neither, onlyTransmitter, onlyReceiver, twoKinds, Reachable, Reached}
 
 -- ---- A run that goes on
 
@@ -152,7 +152,8 @@ module _ (size e : ℕ) (h : e < 16) where
   way-2-read : (q : List ℕ) → Bytes q → length q < size → isEnabled e receivedData ≡ true → Way size e 2 q
   unfolding announce isDue mark unmark
   way-2-read q b f r =
-      to (ap (λ (i : ℕ). unmark i receivedData) (due-marks e 2 receiver r refl)) (takes q (fills (to (marked-stays e 2 transmitter refl) (enables (enables begins 2 (lit< tt)) e h)) (0 ∷ q) (lit< tt, b) (omega arith)))
+      let before = to (marked-stays e 2 transmitter refl) (enables (enables begins 2 (lit< tt)) e h) in
+      to (ap (λ (i : ℕ). unmark i receivedData) (due-marks e 2 receiver r refl)) (takes q (fills before (0 ∷ q) (lit< tt, b) (omega arith)))
 
   way-2 : (q : List ℕ) → Bytes q → length q ≤ size → (t r : Bool) → isEnabled e transmitterEmpty ≡ t → isEnabled e receivedData ≡ r
       → (r ≡ true → some q ≡ true → t ≡ false → length q < size) → Way size e 2 q
@@ -166,8 +167,8 @@ way size p k = go (p .iir) (p .waiting) (k .marks) (k .bytes) (k .fits) (k .unma
   where
     go : (iir : ℕ) (q : List ℕ) → Marks iir q → Bytes q → length q ≤ size
         → (isEnabled (p .settings .ier) transmitterEmpty ≡ true → isMarked iir transmitterEmpty ≡ false → isMarked iir receivedData ≡ true → isEnabled (p .settings .ier) receivedData ≡ true)
-        → (isEnabled (p .settings .ier) receivedData ≡ true → isMarked iir receivedData ≡ false → some q ≡ true → isMarked iir transmitterEmpty ≡ true → isEnabled (p .settings .ier) transmitterEmpty ≡ false
-        → length q < size)
+        → (isEnabled (p .settings .ier) receivedData ≡ true → isMarked iir receivedData ≡ false → some q ≡ true → isMarked iir transmitterEmpty ≡ true
+        → isEnabled (p .settings .ier) transmitterEmpty ≡ false → length q < size)
         → Way size (p .settings .ier) iir q
     go iir q neither b f t r = way-1 size (p .settings .ier) (k .settings .ier) q b f
     go iir q onlyTransmitter b f t r = way-2 size (p .settings .ier) (k .settings .ier) q b f _ _ refl refl (λ i w j. r i refl w refl j)

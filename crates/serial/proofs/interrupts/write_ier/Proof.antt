@@ -1,5 +1,5 @@
 -- Assumes nothing.
-use mathlib.Core.Path.{refl}
+use native.Mathlib.Omega.{arith}
 use Rattle.serial.proofs.Enabling.{with-none-waiting, with-some-waiting}
 use borrow.Author.Needs.{needs}
 use Rattle.serial.proofs.interrupts.write_ier.Statement.{statement}
@@ -24,7 +24,7 @@ mul-result : tie.Need-mul-result
 mul-result c = search needs
 
 returns : tie.Need-returns
-returns c = let a = c .before .before .before .before .before .before .before .args in λ ring. with-none-waiting (a .regs .now) (a .pos .now) ring (c .before .before .before .before .before .nine .ensures) (a .value) _ _ (c .before .before .before .before .ier-stored .ensures) (c .before .before .before .count .ensures) (c .before .before .if1 .taken) (c .announce-transmitter-empty .ensures) refl
+returns c = let a = c .before .before .before .before .before .before .before .args in λ ring. with-none-waiting (a .regs .now) (a .pos .now) ring (c .before .before .before .before .before .nine .ensures) (a .value) _ _ (c .before .before .before .before .ier-stored .ensures) (c .before .before .before .count .ensures) (omega arith) (c .announce-transmitter-empty .ensures) (omega arith)
 
 announce-received-data-requires : tie.Need-announce-received-data-requires
 announce-received-data-requires c κs = search needs
@@ -39,7 +39,7 @@ mul-result-2 : tie.Need-mul-result-2
 mul-result-2 c = search needs
 
 returns-2 : tie.Need-returns-2
-returns-2 c = let a = c .before .before .before .before .before .before .before .before .before .args in λ ring. with-some-waiting (a .regs .now) (a .pos .now) ring (c .before .before .before .before .before .before .before .nine .ensures) (a .value) _ _ (c .before .before .before .before .before .before .ier-stored .ensures) (c .before .before .before .before .before .count .ensures) (c .before .before .before .before .if1 .left) (c .before .before .announce-received-data .ensures) (c .announce-transmitter-empty2 .ensures) refl
+returns-2 c = let a = c .before .before .before .before .before .before .before .before .before .args in λ ring. with-some-waiting (a .regs .now) (a .pos .now) ring (c .before .before .before .before .before .before .before .nine .ensures) (a .value) _ _ (c .before .before .before .before .before .before .ier-stored .ensures) (c .before .before .before .before .before .count .ensures) (omega arith) (c .before .before .announce-received-data .ensures) (c .announce-transmitter-empty2 .ensures) (omega arith)
 
 pub write-ier-spec : {M : Type 1} → statement M
 write-ier-spec =
