@@ -110,7 +110,7 @@ static void any_write(struct port port)
     struct serialpost_serial before = copy(port);
     uint8_t offset = any_offset();
     uint32_t answer = serialpost_serial_write(port.regs, port.pos, port.ring, offset, (uint8_t)any());
-    EXPECT(SERIALPOST_RAISES(answer) <= 1);
+    EXPECT(SERIALPOST_RAISES(answer) <= (offset == SERIALPOST_IER ? 2 : 1));
     EXPECT(SERIALPOST_SENDS(answer) || SERIALPOST_BYTE(answer) == 0);
     EXPECT(offset < 8 || (answer == 0 && is(port, &before)));
 }

@@ -63,7 +63,8 @@ static void output_is_sent(void)
     struct serialpost_serial port = fresh_port();
     uint32_t answer = write_at(&port, SERIALPOST_THR, 'x');
     EXPECT(SERIALPOST_SENDS(answer) && SERIALPOST_BYTE(answer) == 'x' && SERIALPOST_RAISES(answer) == 0);
-    write_at(&port, SERIALPOST_IER, 0x02);
+    EXPECT(SERIALPOST_RAISES(write_at(&port, SERIALPOST_IER, 0x02)) == 1);
+    EXPECT(read_at(&port, SERIALPOST_IIR) == 0xc2);
     answer = write_at(&port, SERIALPOST_THR, 0);
     EXPECT(SERIALPOST_SENDS(answer) && SERIALPOST_BYTE(answer) == 0 && SERIALPOST_RAISES(answer) == 1);
     answer = write_at(&port, SERIALPOST_THR, 'y');

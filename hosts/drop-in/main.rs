@@ -61,7 +61,7 @@ impl Met {
             self.not_sent,
             self.neither,
         ];
-        least.iter().any(|&times| times < 100)
+        least.iter().any(|&times| times < 10)
     }
 }
 
@@ -78,19 +78,6 @@ impl Pair {
             original: original::Monitor::new(hosts[0].clone()),
             ours: ours::Monitor::new(hosts[1].clone()),
             hosts,
-        }
-    }
-
-    /// A write of the interrupt enable register that may announce something in vm-superio and does not in ours (the
-    /// README has it among what is missing). A read of the identification register then forgets what was
-    /// announced, and both are as one again. What the two accesses do is not compared.
-    fn enable(&mut self, write: &Operation) {
-        for operation in [write, &Operation::ReadByte { offset: 2 }] {
-            self.original.perform(operation);
-            self.ours.perform(operation);
-        }
-        for host in &self.hosts {
-            host.events();
         }
     }
 
@@ -128,17 +115,15 @@ fn drive(list: &[u8], seed: u64, met: &mut Met) -> Result<(), String> {
         let Some(operation) = format::parse(line) else {
             continue;
         };
+        // A write that may announce two kinds: where raising the first fails vm-superio leaves the second out, ours
+        // does not (the README has it among what is different). So the line does not fail there.
         let announces = place.announces(line);
         place.pass(line);
-        if announces {
-            pair.enable(&operation);
-            continue;
-        }
         if operation == Operation::Start(Device::Clock) {
             tell(0);
         }
         let faults = Faults {
-            line: numbers.once_in(FAULT_ONCE_IN),
+            line: numbers.once_in(FAULT_ONCE_IN) && !announces,
             write: numbers.once_in(FAULT_ONCE_IN),
             flush: numbers.once_in(FAULT_ONCE_IN),
         };

@@ -132,7 +132,14 @@ impl<T: Trigger, EV: SerialEvents, W: Write> Serial<T, EV, W> {
         self.out.flush()
     }
 
+    /// Raises the interrupt so many times, also where it failed before: each stands for a kind of its own. The first
+    /// error is returned.
     fn raise(&self, times: u32) -> Result<(), Error<T::E>> {
-        (0..times).try_for_each(|_| self.interrupt_evt.trigger().map_err(Error::Trigger))
+        let mut outcome = Ok(());
+        for _ in 0..times {
+            let raised = self.interrupt_evt.trigger().map_err(Error::Trigger);
+            outcome = outcome.and(raised);
+        }
+        outcome
     }
 }

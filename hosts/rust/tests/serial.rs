@@ -4,8 +4,9 @@ mod host;
 
 use std::error::Error as _;
 use std::io::{self, sink};
+use std::rc::Rc;
 
-use host::{port, Event};
+use host::{port, Event, Host, Port};
 use serialpost::serial::Error;
 use serialpost::{Serial, Trigger};
 
@@ -43,10 +44,18 @@ fn sent_bytes_reach_the_writer_in_order() {
     assert_eq!(port.into_writer(), b"!");
 }
 
-#[test]
-fn a_byte_is_written_and_flushed_before_the_interrupt() {
+/// A port whose transmitter interrupts. To enable that announces the empty transmitter; the guest has seen it.
+fn port_that_sends_by_interrupts() -> (Rc<Host>, Port) {
     let (host, mut port) = port();
     port.write(IER, 0x02).unwrap();
+    assert_eq!(host.raised(), 1);
+    assert_eq!(port.read(IIR), 0xc2);
+    (host, port)
+}
+
+#[test]
+fn a_byte_is_written_and_flushed_before_the_interrupt() {
+    let (host, mut port) = port_that_sends_by_interrupts();
     port.write(DATA, b'a').unwrap();
     let order = [Event::Sent(b'a'), Event::Flushed, Event::Raised];
     assert_eq!(host.events(), order);
@@ -54,8 +63,7 @@ fn a_byte_is_written_and_flushed_before_the_interrupt() {
 
 #[test]
 fn the_empty_transmitter_is_marked_raised_once_and_forgotten_by_a_read() {
-    let (host, mut port) = port();
-    port.write(IER, 0x02).unwrap();
+    let (host, mut port) = port_that_sends_by_interrupts();
     port.write(DATA, b'a').unwrap();
     assert_eq!(host.raised(), 1);
     port.write(DATA, b'b').unwrap();
@@ -69,8 +77,7 @@ fn the_empty_transmitter_is_marked_raised_once_and_forgotten_by_a_read() {
 
 #[test]
 fn a_byte_that_is_not_written_is_not_flushed_and_the_interrupt_is_raised_all_the_same() {
-    let (host, mut port) = port();
-    port.write(IER, 0x02).unwrap();
+    let (host, mut port) = port_that_sends_by_interrupts();
     host.write_fails.set(true);
     let outcome = port.write(DATA, b'a');
     assert!(matches!(outcome, Err(Error::IOError(why)) if why.to_string() == "the wire is cut"));
@@ -80,8 +87,7 @@ fn a_byte_that_is_not_written_is_not_flushed_and_the_interrupt_is_raised_all_the
 
 #[test]
 fn a_byte_that_is_not_flushed_is_an_error_and_the_interrupt_is_raised_all_the_same() {
-    let (host, mut port) = port();
-    port.write(IER, 0x02).unwrap();
+    let (host, mut port) = port_that_sends_by_interrupts();
     host.flush_fails.set(true);
     let outcome = port.write(DATA, b'a');
     assert!(
@@ -102,8 +108,7 @@ fn a_writer_with_no_room_is_an_error_of_its_own_kind() {
 
 #[test]
 fn an_interrupt_that_cannot_be_raised_is_an_error_and_counts_as_raised() {
-    let (host, mut port) = port();
-    port.write(IER, 0x02).unwrap();
+    let (host, mut port) = port_that_sends_by_interrupts();
     host.line_fails.set(true);
     let outcome = port.write(DATA, b'a');
     assert!(matches!(outcome, Err(Error::Trigger("the line is cut"))));
@@ -114,9 +119,19 @@ fn an_interrupt_that_cannot_be_raised_is_an_error_and_counts_as_raised() {
 }
 
 #[test]
-fn where_both_fail_the_interrupt_is_the_error() {
+fn of_two_interrupts_the_second_is_raised_though_the_first_fails() {
     let (host, mut port) = port();
-    port.write(IER, 0x02).unwrap();
+    port.enqueue_raw_bytes(b"a").unwrap();
+    host.line_fails.set(true);
+    let outcome = port.write(IER, 0x03);
+    assert!(matches!(outcome, Err(Error::Trigger("the line is cut"))));
+    assert_eq!(host.raised(), 2);
+    assert_eq!(port.read(IIR), 0xc6);
+}
+
+#[test]
+fn where_both_fail_the_interrupt_is_the_error() {
+    let (host, mut port) = port_that_sends_by_interrupts();
     host.line_fails.set(true);
     host.write_fails.set(true);
     assert!(matches!(port.write(DATA, b'a'), Err(Error::Trigger(_))));
@@ -159,9 +174,10 @@ fn input_while_interrupts_are_off_waits_in_silence() {
     assert_eq!(host.raised(), 0);
     assert_eq!(port.read(LSR) & 0x01, 0x01);
     assert_eq!(port.read(IIR), 0xc1);
-    // To enable them announces nothing either, unlike vm-superio 0.8.2: the README has it among what is missing.
+    // To enable them announces the bytes and the empty transmitter.
     port.write(IER, 0x03).unwrap();
-    assert_eq!(host.raised(), 0);
+    assert_eq!(host.raised(), 2);
+    assert_eq!(port.read(IIR), 0xc6);
     assert_eq!(port.read(DATA), b'a');
 }
 

@@ -71,7 +71,9 @@ impl Write for Wire {
     }
 }
 
-pub fn port() -> (Rc<Host>, Serial<Line, NoEvents, Wire>) {
+pub type Port = Serial<Line, NoEvents, Wire>;
+
+pub fn port() -> (Rc<Host>, Port) {
     let host = Rc::new(Host::default());
     let port = Serial::new(Line(host.clone()), Wire(host.clone()));
     (host, port)
