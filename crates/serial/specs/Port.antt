@@ -31,7 +31,8 @@ addressed dlab offset =
 
 -- ---- State
 
--- What the guest wrote last, in the registers that keep it.
+-- What the guest wrote last, in the registers that keep it. Word length, parity, break and the divisor have no effect on the bytes: DIFFERENCES,
+-- "serial-word-length" and "serial-line-settings".
 pub record Settings : Type 0 where
   pub ier : ℕ
   pub lcr : ℕ
@@ -89,7 +90,8 @@ becomes p = replies p 0
 
 -- ---- Reads
 
--- RBR: the first byte that waits leaves; 0 where none waits. Received data is unmarked even if more wait: DIFFERENCES, "serial-forgotten-data".
+-- RBR: the first byte that waits leaves; 0 where none waits: DIFFERENCES, "serial-empty-receiver". Received data is unmarked even if more wait:
+-- DIFFERENCES, "serial-forgotten-data".
 abbrev pub readRbr : Port → Out
 readRbr p =
     let left = tail (p .waiting) in
@@ -173,7 +175,7 @@ writeIer p value =
     record { port = withReceiver (withSettings p s) (b .iir) (p .lsr) (p .waiting); reply = 0; sent = []; raises = a .raises + b .raises }
 
 -- FCR: nothing happens: DIFFERENCES, "serial-fifo-off", "serial-fifo-empty" and "serial-trigger-level". LSR, MSR and the offsets beyond are not
--- written.
+-- written: DIFFERENCES, "serial-read-only" and "serial-beyond".
 unfoldable pub writeRegister : Port → Register → ℕ → Out
 writeRegister p RBR-THR v = writeThr p v
 writeRegister p IER v = writeIer p v
