@@ -11,7 +11,7 @@ use lib.Dec.{lit<}
 use lib.IntN.{pos, negsuc, _-ℤ_}
 use lib.ListN.{getD}
 use borrow.Author.Tests.{lt-ltb, le-ltb, le-leb, lt-leb}
-use Rattle.clock.specs.Bytes.{valueOf}
+use Rattle.common.specs.Bytes.{valueOf}
 use Rattle.clock.specs.Registers.{Clock, fresh, says, becomes, ids, sum, shown, withLr, readOf, writeOf}
 use Rattle.clock.specs.Runs.{Access, read, write, resultOf, next, after, answers, All, KeepsTime, CannotWrite, seen}
 use Rattle.clock.proofs.Time.{less, below, minus, shows-sum, shows-now-above, shows-now-below}

@@ -5,7 +5,7 @@ use mathlib.Core.Bool.{true, false}
 use mathlib.Core.List.{List, [], _∷_}
 use Prim.Native.Nat.{ℕ, _/_, _%_, _^_}
 use lib.ListN.{take, drop}
-use Rattle.clock.specs.Bytes.{bytesOf, valueOf}
+use Rattle.common.specs.Bytes.{bytesOf, valueOf}
 use Rattle.clock.specs.Registers.{registerAt, fresh, ids, shown, rule, readOf, writeOf}
 use Rattle.clock.specs.Runs.{Access, read, write, Result, resultOf, next, results, answers}
 

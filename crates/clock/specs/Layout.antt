@@ -7,7 +7,7 @@ use mathlib.Core.List.{List}
 use lib.Dec.{ltb}
 use lib.IntN.{ℤ, pos, _-ℤ_}
 use lib.ListN.{getD}
-use Rattle.clock.specs.Bytes.{bytesOf}
+use Rattle.common.specs.Bytes.{bytesOf}
 use Rattle.clock.specs.Registers.{Clock, Reply, says, refused, Change, becomes, ignored}
 
 -- ---- Words

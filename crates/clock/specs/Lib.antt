@@ -1,4 +1,3 @@
-pub mod Bytes
 pub mod Registers
 pub mod Layout
 pub mod Runs

@@ -5,7 +5,7 @@ use mathlib.Core.Bool.{Bool, true, cond, _&&_}
 use mathlib.Core.List.{List, [], _∷_}
 use lib.Dec.{leb, ltb}
 use lib.ListN.{length, getD}
-use Rattle.clock.specs.Bytes.{bytesOf, valueOf}
+use Rattle.common.specs.Bytes.{bytesOf, valueOf}
 use Rattle.clock.specs.Registers.{Clock, readOf, writeOf}
 use Rattle.clock.specs.Layout.{clockOf, bytesAfter, readValid, clockAfter, writeValid, Reads, Writes}
 

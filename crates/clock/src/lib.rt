@@ -6,7 +6,7 @@ ghost use mathlib.Core.List.{[], _∷_};
 ghost use Prim.Native.Nat.{_-_, _/_, _%_, _^_, _≤_};
 ghost use lib.IntN.{pos, _-ℤ_};
 ghost use lib.ListN.{length, getD};
-ghost use Rattle.clock.specs.Bytes.{valueOf};
+ghost use Rattle.common.specs.Bytes.{valueOf};
 ghost use Rattle.clock.specs.Registers.{fresh, shown, ids, withLr, readOf, writeOf};
 ghost use Rattle.clock.specs.Layout.{joined, signed, clockOf, Answered, Reads, Writes};
 

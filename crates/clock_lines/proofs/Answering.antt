@@ -5,7 +5,7 @@ use mathlib.Core.Path.{_≡_, refl, sym, _∙_}
 use mathlib.Core.Bool.{Bool, true, false}
 use mathlib.Core.List.{List, _++_}
 use lib.ListN.{drop}
-use Rattle.clock.specs.Bytes.{valueOf}
+use Rattle.common.specs.Bytes.{valueOf}
 use Rattle.clock.specs.Registers.{Reply, Change, readOf, writeOf}
 use Rattle.clock.specs.Layout.{clockOf, Reads, Writes}
 use Rattle.words.specs.Decimal.{numberOf}

@@ -4,7 +4,7 @@ use mathlib.Core.Path.{_≡_}
 use mathlib.Core.Bool.{Bool, cond}
 use mathlib.Core.List.{List, [], _∷_, _++_}
 use lib.ListN.{getD, drop}
-use Rattle.clock.specs.Bytes.{valueOf}
+use Rattle.common.specs.Bytes.{valueOf}
 use Rattle.clock.specs.Registers.{Clock, Reply, Change, readOf, writeOf}
 use Rattle.clock.specs.Layout.{clockOf, bytesAfter, readValid, clockAfter, writeValid}
 use Rattle.words.specs.Decimal.{numberOf}

@@ -15,7 +15,7 @@ use words::put::unknown;
 ghost use Prim.Native.Nat.{_+_, _≤_};
 ghost use mathlib.Core.Path.{_≡_};
 ghost use mathlib.Core.List.{_++_};
-ghost use Rattle.clock.specs.Bytes.{valueOf};
+ghost use Rattle.common.specs.Bytes.{valueOf};
 ghost use Rattle.clock.specs.Registers.{readOf, writeOf, fresh};
 ghost use Rattle.clock.specs.Layout.{clockOf};
 ghost use Rattle.words.specs.Hex.{wordDigits};

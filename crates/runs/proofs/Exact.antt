@@ -11,6 +11,7 @@ use lib.ListN.{length}
 use lib.Seq.{take-length}
 use lib.Dec.{eqb, ltb, lit<}
 use borrow.Author.Tests.{lt-ltb, ne-eqb}
+use Rattle.common.specs.Bytes.{Bytes}
 use Rattle.common.specs.Lists.{some}
 use Rattle.serial.specs.Interrupts.{receivedData, transmitterEmpty, isEnabled, isMarked, ierStored, mark, unmark, isDue, Announced, announce}
 use Rattle.serial.specs.LineStatus.{lsrReady, lsrAfterRead}
@@ -22,7 +23,7 @@ use Rattle.runs.proofs.Reachable.{all-reachable}
 use Rattle.runs.specs.Run.{Op, read, write, input, step, run}
 use Rattle.runs.specs.Told.{Source, receiver, transmitter, kindOf}
 use Rattle.runs.proofs.Rooms.{Outcome, raised, quiet, outcome}
-use Rattle.runs.specs.Reachable.{Bytes, AllOfBytes, Written, Marks, neither, onlyTransmitter, onlyReceiver, twoKinds, Reachable, Reached}
+use Rattle.runs.specs.Reachable.{AllOfBytes, Written, Marks, neither, onlyTransmitter, onlyReceiver, twoKinds, Reachable, Reached}
 
 -- ---- A run that goes on
 

@@ -9,6 +9,7 @@ use native.Mathlib.Omega.{arith}
 use lib.ListN.{length, take, length-append}
 use lib.Bits.{and-le-r}
 use lib.Dec.{lit<, ltb}
+use Rattle.common.specs.Bytes.{Bytes}
 use Rattle.common.specs.Lists.{some}
 use Rattle.serial.specs.Interrupts.{receivedData, ierStored, isEnabled, isMarked, mark, unmark, Announced}
 use Rattle.serial.specs.LineStatus.{lsrReady, lsrAfterRead}
@@ -16,7 +17,7 @@ use Rattle.serial.specs.Port.{Register, RBR-THR, IER, IIR-FCR, LCR, MCR, LSR, M
 use Rattle.runs.specs.Run.{Op, read, write, input, room, Answer, step, run}
 use Rattle.runs.specs.Book.{Book, isData, accepted, taken, bookOf}
 use Rattle.runs.specs.Told.{Source, receiver, transmitter, kindOf, marked}
-use Rattle.runs.specs.Reachable.{Bytes, OfBytes, AllOfBytes, Written, Marks, neither, onlyTransmitter, onlyReceiver, twoKinds, Unmarked, Reachable}
+use Rattle.runs.specs.Reachable.{OfBytes, AllOfBytes, Written, Marks, neither, onlyTransmitter, onlyReceiver, twoKinds, Unmarked, Reachable}
 use Rattle.runs.proofs.Rooms.{unmark-receiver, none-marked, Outcome, raised, quiet, outcome, announced-marked}
 use Rattle.runs.proofs.Registers.{both, put, write-puts}
 use Rattle.runs.proofs.Effects.{Grounds, Announces, none, then, Effect, keeps, comes, reads, identifies, effect}

@@ -4,15 +4,11 @@ use mathlib.Core.Path.{_≡_}
 use mathlib.Core.Bool.{true, false, cond}
 use mathlib.Core.List.{List, [], _∷_}
 use lib.ListN.{length}
+use Rattle.common.specs.Bytes.{Bytes}
 use Rattle.common.specs.Lists.{some}
 use Rattle.serial.specs.Port.{Settings, Port, fresh}
 use Rattle.runs.specs.Run.{Op, read, write, input, room, run}
 use Rattle.runs.specs.Told.{receiver, transmitter, enabled, marked}
-
--- Each of them is a byte.
-abbrev pub Bytes : List ℕ → Type 0
-Bytes [] = Unit {0}
-Bytes (x ∷ xs) = (x < 256) × Bytes xs
 
 -- Operations whose offsets, values and bytes are bytes.
 abbrev pub OfBytes : Op → Type 0

@@ -1,7 +1,7 @@
 -- `number` meets its contract. The sum of the weighted bytes is the number that they are.
 -- Assumes nothing.
 use native.Mathlib.Omega.{arith}
-use Rattle.clock.specs.Bytes.{valueOf}
+use Rattle.common.specs.Bytes.{valueOf}
 use borrow.Author.Needs.{needs}
 use Rattle.clock.proofs.number.Statement.{statement}
 use Rattle.clock.proofs.number.Tie as tie

@@ -1,5 +1,5 @@
 -- Bytes in memory and the number that they are, lowest byte first.
-use Prim.Native.Nat.{ℕ, zero, suc, _+_, _*_, _/_, _%_}
+use Prim.Native.Nat.{ℕ, zero, suc, _+_, _*_, _/_, _%_, _<_}
 use mathlib.Core.List.{List, [], _∷_}
 
 -- The lowest `count` bytes of a number.
@@ -11,3 +11,8 @@ bytesOf (suc count) n = n % 256 ∷ bytesOf count (n / 256)
 unfoldable pub valueOf : List ℕ → ℕ
 valueOf [] = 0
 valueOf (byte ∷ bytes) = byte + 256 * valueOf bytes
+
+-- Each of them is a byte.
+abbrev pub Bytes : List ℕ → Type 0
+Bytes [] = Unit {0}
+Bytes (x ∷ xs) = (x < 256) × Bytes xs
