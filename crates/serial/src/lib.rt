@@ -2,10 +2,10 @@
 // some port. The host hands each access of the guest to these functions and acts on the answer.
 mod interrupts;
 mod line_status;
-mod memory;
+pub mod memory;
 mod modem;
 mod receiver;
-mod ring;
+pub mod ring;
 mod transmitter;
 
 use memory::DLL;

@@ -1,0 +1,1 @@
+// A serial port is written down and brought back.
