@@ -63,7 +63,8 @@ pattern-signed bits b = go (decLt bits (2 ^ 63))
     go (yes l) = rw (signed-low bits l)
     go (no l) = rw (signed-high bits (omega arith) b) (omega arith)
 
-same-bits : (x y : ℕ) → x < 2 ^ 64 → y < 2 ^ 64 → signed x ≡ signed y → x ≡ y
+-- No two patterns are the same number.
+pub same-bits : (x y : ℕ) → x < 2 ^ 64 → y < 2 ^ 64 → signed x ≡ signed y → x ≡ y
 same-bits x y a b e = sym (pattern-signed x a) ∙ ap patternOf e ∙ pattern-signed y b
 
 -- No two are the same clock: what a contract says of the clock it says of every bit of the words.
