@@ -1,0 +1,4 @@
+pub mod Restoring
+pub mod Reachable
+pub mod Exact
+pub mod Saving

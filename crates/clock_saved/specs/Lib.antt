@@ -1,0 +1,2 @@
+pub mod Reachable
+pub mod Saved

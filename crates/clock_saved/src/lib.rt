@@ -1,0 +1,81 @@
+// A clock is written down and brought back. What is written down are its six words. Any six words are some clock, so every one is
+// believed; the answer says whether a run from a fresh clock could have come to them.
+ghost use mathlib.Core.Path.{_≡_};
+ghost use mathlib.Core.Bool.{true};
+ghost use mathlib.Core.Logic.{_↔_};
+ghost use Rattle.clock.specs.Layout.{joined, signed};
+ghost use Rattle.clock.specs.Runs.{Words};
+ghost use Rattle.clock_saved.specs.Reachable.{ShowedAt};
+ghost use Rattle.clock_saved.specs.Saved.{Restores};
+
+// ---- Where they lie among the six words
+
+const LOAD: usize = 0;
+
+const MASK: usize = 2;
+
+const RAW_STATUS: usize = 3;
+
+const AHEAD_LOW: usize = 4;
+
+const AHEAD_HIGH: usize = 5;
+
+// Six words are six, of 32 bits each: a call that tells a proof so, and compiles to nothing. To read one of a slice tells of all.
+fn six_words(x: &[u32; 6])
+    ensures { λ r. ⌜ Words (now (x .entry)) ⌝ }
+{
+    let s: &[u32] = x;
+    let first = s[0];
+}
+
+fn copy(from: &[u32; 6], to: &mut [u32; 6])
+    ensures { λ r. ⌜ now (to .exit) ≡ now (from .entry) ⌝ }
+{
+    six_words(from);
+    six_words(to);
+    to[0] = from[0];
+    to[1] = from[1];
+    to[2] = from[2];
+    to[3] = from[3];
+    to[4] = from[4];
+    to[5] = from[5];
+}
+
+// Whether a clock that is so far ahead showed `value` at some second of 32 bits. Two's complement wraps, so that second is the
+// wrapped difference.
+fn showed(value: u32, low: u32, high: u32) -> bool
+    ensures { λ r. ⌜ (r ≡ true) ↔ ShowedAt (signed (joined low high)) value ⌝ }
+{
+    let ahead = (low as u64) + 0x1_0000_0000 * (high as u64);
+    let now = std::num::wrapping_sub_u64(value as u64, ahead);
+    if now < 0x1_0000_0000 {
+        return true;
+    }
+    false
+}
+
+// ---- The entry points
+
+// Writes the clock down.
+#[no_mangle]
+pub extern "C" fn serialpost_clock_save(clock: &[u32; 6], saved: &mut [u32; 6])
+    ensures { λ r. ⌜ now (saved .exit) ≡ now (clock .entry) ⌝ }
+{
+    copy(clock, saved);
+}
+
+// Brings a clock back. True: a run from a fresh clock could have come to it.
+#[no_mangle]
+pub extern "C" fn serialpost_clock_restore(clock: &mut [u32; 6], saved: &[u32; 6]) -> bool
+    ensures { λ r. ⌜ Restores (now (saved .entry)) (now (clock .exit)) r ⌝ }
+{
+    six_words(saved);
+    copy(saved, clock);
+    if saved[MASK] > 1 {
+        return false;
+    }
+    if saved[RAW_STATUS] != 0 {
+        return false;
+    }
+    showed(saved[LOAD], saved[AHEAD_LOW], saved[AHEAD_HIGH])
+}
