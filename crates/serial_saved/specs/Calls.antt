@@ -23,12 +23,16 @@ abbrev pub restoreWord : Bool → Restore → ℕ
 restoreWord reachable o = cond reachable 1 0 + cond (o .refused) 0x1_0000 0 + 0x2_0000 * o .raises
 
 -- The port is brought back: the memory holds it, from the storage's first place on, and the bytes of the storage that do not wait are as they were.
--- Where that is refused not a byte changes.
-pub record Restores (regs pos ring saved waiting regs′ pos′ ring′ : List ℕ) (r : ℕ) : Type 0 where
+-- Where that is refused not a byte changes. What is brought back is believed whether or not a run can have come to it; the word says it.
+pub record Restored (regs pos ring saved waiting regs′ pos′ ring′ : List ℕ) (r : ℕ) (o : Restore) : Type 0 where
   pub reachable : Bool
   pub exact : (reachable ≡ true) ↔ Reachable capacity (savedOf saved waiting)
-  pub answer : r ≡ restoreWord reachable (restoreOf (portOf regs pos ring) (savedOf saved waiting))
-  pub holds : portOf regs′ pos′ ring′ ≡ restoreOf (portOf regs pos ring) (savedOf saved waiting) .port
+  pub answer : r ≡ restoreWord reachable o
+  pub holds : portOf regs′ pos′ ring′ ≡ o .port
   pub spared : spareOf pos′ ring′ ≡ spareOf pos′ ring
-  pub restored : restoreOf (portOf regs pos ring) (savedOf saved waiting) .refused ≡ false → (regs′ ≡ saved) × (pos′ ≡ 0 ∷ length waiting ∷ [])
-  pub still : restoreOf (portOf regs pos ring) (savedOf saved waiting) .refused ≡ true → (regs′ ≡ regs) × ((pos′ ≡ pos) × (ring′ ≡ ring))
+  pub restored : o .refused ≡ false → (regs′ ≡ saved) × (pos′ ≡ 0 ∷ length waiting ∷ [])
+  pub still : o .refused ≡ true → (regs′ ≡ regs) × ((pos′ ≡ pos) × (ring′ ≡ ring))
+
+abbrev pub Restores : List ℕ → List ℕ → List ℕ → List ℕ → List ℕ → List ℕ → List ℕ → List ℕ → ℕ → Type 0
+Restores regs pos ring saved waiting regs′ pos′ ring′ r =
+    Restored regs pos ring saved waiting regs′ pos′ ring′ r (restoreOf (portOf regs pos ring) (savedOf saved waiting))

@@ -7,14 +7,12 @@ use serial::memory::IIR;
 use serial::ring;
 ghost use mathlib.Core.Path.{_≡_};
 ghost use mathlib.Core.List.{List};
-ghost use mathlib.Core.Bool.{cond, _&&_};
 ghost use Prim.Native.Nat.{ℕ, _≤_};
 ghost use lib.ListN.{length};
 ghost use Rattle.serial.specs.Layout.{capacity};
-ghost use Rattle.serial.specs.Interrupts.{isEnabled, isMarked};
 ghost use Rattle.serial_saved.specs.Saved.{savedOf, raisedAgain};
 ghost use Rattle.serial_saved.specs.Calls.{Saves, Restores};
-ghost use Rattle.serial_saved.specs.Inside.{Unrolled};
+ghost use Rattle.serial_saved.specs.Inside.{Unrolled, Raised};
 
 // How many bytes may wait.
 const CAPACITY: usize = ring::CAPACITY as usize;
@@ -62,7 +60,7 @@ pub extern "C" fn serialpost_serial_save(
 // 1 where a kind is enabled and marked, else 0. Kinds go by their bits: `enabled` in IER, `marked` in
 // IIR.
 fn raise(ier: u8, iir: u8, enabled: u8, marked: u8) -> u32
-    ensures { λ r. ⌜ r ≡ cond (isEnabled ier (record { enabledBy = enabled; markedBy = marked }) && isMarked iir (record { enabledBy = enabled; markedBy = marked })) 1 0 ⌝ }
+    ensures { λ r. ⌜ Raised ier iir (record { enabledBy = enabled; markedBy = marked }) r ⌝ }
 {
     if ier & enabled == 0 {
         return 0;
@@ -104,9 +102,6 @@ pub extern "C" fn serialpost_serial_restore(
     pos[0] = 0;
     pos[1] = len as u32;
     ring::fill(ring, 0, 0, waiting, len);
-    let again = 0x2_0000 * raises(saved);
-    if reachable::is_reachable(saved, waiting) {
-        return again + 1;
-    }
-    again
+    let told = reachable::is_reachable(saved, waiting) as u32;
+    told + 0x2_0000 * raises(saved)
 }

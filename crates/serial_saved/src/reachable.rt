@@ -31,10 +31,16 @@ fn are_marks(iir: u8, n: usize) -> bool
     ensures { λ r. ⌜ ((q : List ℕ) → length q ≡ n → (r ≡ true) ↔ Marks iir q) ⌝ }
 {
     match iir {
-        1 | 2 => {
+        1 => {
             return true;
         }
-        4 | 6 => {
+        2 => {
+            return true;
+        }
+        4 => {
+            return 0 < n;
+        }
+        6 => {
             return 0 < n;
         }
         _ => {

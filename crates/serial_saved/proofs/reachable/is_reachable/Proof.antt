@@ -1,0 +1,95 @@
+-- Each answer is a law of `Testing`.
+-- Assumes nothing.
+use mathlib.Core.Path.{refl}
+use Rattle.serial_saved.proofs.Testing.{wide-ier, other-msr, other-lsr, other-marks, never-read, decided}
+use borrow.Author.Needs.{needs}
+use Rattle.serial_saved.proofs.reachable.is_reachable.Statement.{statement}
+use Rattle.serial_saved.proofs.reachable.is_reachable.Tie as tie
+
+all-bytes-requires : tie.Need-all-bytes-requires
+all-bytes-requires c κs = search needs
+
+all-bytes-requires-2 : tie.Need-all-bytes-requires-2
+all-bytes-requires-2 c κs = search needs
+
+element-copy-out-ier : tie.Need-element-copy-out-ier
+element-copy-out-ier c = search needs
+
+element-copy-out-iir : tie.Need-element-copy-out-iir
+element-copy-out-iir c = search needs
+
+returns : tie.Need-returns
+returns c =
+    let a = c .before .before .before .before .before .before .before .args in
+    wide-ier (a .saved .now) (a .waiting .now) (c .if1 .taken)
+
+element-copy-out-if2 : tie.Need-element-copy-out-if2
+element-copy-out-if2 c = search needs
+
+returns-2 : tie.Need-returns-2
+returns-2 c =
+    let a = c .before .before .before .before .before .before .before .before .before .args in
+    other-msr (a .saved .now) (a .waiting .now) (c .if2 .taken)
+
+element-copy-out-if3 : tie.Need-element-copy-out-if3
+element-copy-out-if3 c = search needs
+
+status-requires : tie.Need-status-requires
+status-requires c κs = search needs
+
+returns-3 : tie.Need-returns-3
+returns-3 c =
+    let a = c .before .before .before .before .before .before .before .before .before .before .before .before .args in
+    other-lsr (a .saved .now) (a .waiting .now) _ (c .before .status .ensures (a .waiting .now) refl) (c .if3 .taken)
+
+are-marks-requires : tie.Need-are-marks-requires
+are-marks-requires c κs = search needs
+
+returns-4 : tie.Need-returns-4
+returns-4 c =
+    let a = c .before .before .before .before .before .before .before .before .before .before .before .before .before .before .args in
+    other-marks (a .saved .now) (a .waiting .now) (c .before .are-marks .ensures (a .waiting .now) refl) (c .if4 .taken)
+
+is-transmitter-read-requires : tie.Need-is-transmitter-read-requires
+is-transmitter-read-requires c κs = search needs
+
+returns-5 : tie.Need-returns-5
+returns-5 c =
+    let a = c .before .before .before .before .before .before .before .before .before .before .before .before .before .before .before .before .args in
+    never-read (a .saved .now) (a .waiting .now) (c .before .is-transmitter-read .ensures) (c .if5 .taken)
+
+is-receiver-read-requires : tie.Need-is-receiver-read-requires
+is-receiver-read-requires c κs = search needs
+
+returns-6 : tie.Need-returns-6
+returns-6 c =
+    let a = c .before .before .before .before .before .before .before .before .before .before .before .before .before .before .before .before .before .args in
+    decided (a .saved .now) (a .waiting .now)
+    (c .before .before .before .before .before .before .before .before .before .before .before .before .before .before .all-bytes .ensures)
+    (c .before .before .before .before .before .before .before .before .before .before .before .before .before .all-bytes2 .ensures)
+    (c .before .before .before .before .before .before .before .before .before .before .before .before .before .before .before .before .before .pre)
+    (c .before .before .before .before .before .before .before .before .before .before .if1 .left) (c .before .before .before .before .before .before .before .before .if2 .left)
+    (c .before .before .before .before .before .before .status .ensures (a .waiting .now) refl) (c .before .before .before .before .before .if3 .left)
+    (c .before .before .before .before .are-marks .ensures (a .waiting .now) refl) (c .before .before .before .if4 .left)
+    (c .before .before .is-transmitter-read .ensures) (c .before .if5 .left) (c .is-receiver-read .ensures (a .waiting .now) refl)
+
+pub is-reachable-spec : {M : Type 1} → statement M
+is-reachable-spec =
+    tie.close
+    (tie.spec
+    all-bytes-requires
+    all-bytes-requires-2
+    element-copy-out-ier
+    element-copy-out-iir
+    returns
+    element-copy-out-if2
+    returns-2
+    element-copy-out-if3
+    status-requires
+    returns-3
+    are-marks-requires
+    returns-4
+    is-transmitter-read-requires
+    returns-5
+    is-receiver-read-requires
+    returns-6)
