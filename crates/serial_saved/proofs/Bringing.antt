@@ -22,7 +22,8 @@ use Rattle.serial_saved.specs.Calls.{Saves, restoreWord, Restores}
 use Rattle.serial_saved.specs.Inside.{Unrolled}
 
 -- Registers and waiting bytes are the whole port.
-pub same-port : (regs pos ring waiting : List ℕ) → queue capacity ring (startOf pos) (countOf pos) ≡ waiting → portOf regs pos ring ≡ savedOf regs waiting
+pub same-port : (regs pos ring waiting : List ℕ)
+    → queue capacity ring (startOf pos) (countOf pos) ≡ waiting → portOf regs pos ring ≡ savedOf regs waiting
 unfolding portOf savedOf
 same-port regs pos ring waiting e = rw e refl
 

@@ -16,7 +16,8 @@ use Rattle.serial_saved.specs.Inside.{Unrolled}
 -- ---- The registers
 
 -- The whole of a list as long as the other takes its place.
-pub all-copied : (from to to′ : List ℕ) (n : ℕ) → length from ≡ n → length to ≡ n → to′ ≡ take (length from) from ++ drop (length from) to → to′ ≡ from
+pub all-copied : (from to to′ : List ℕ) (n : ℕ) → length from ≡ n → length to ≡ n
+    → to′ ≡ take (length from) from ++ drop (length from) to → to′ ≡ from
 all-copied from to to′ n f t e =
     let same : length from ≡ length to = f ∙ sym t in
     e ∙ rw (take-length from, same, drop-length to, append-nil from)
@@ -39,7 +40,8 @@ module _ (ring : List ℕ) (start n : ℕ) (waiting₀ : List ℕ) where
   unfolding queue
   one-more waiting i fits h s =
       let inside : i < length waiting = omega (arith, s .long) in
-      let later : drop (i + 1) waiting ≡ drop (i + 1) waiting₀ = sym (drop-drop 1 i waiting) ∙ ap (λ (l : List ℕ). drop 1 l) (s .there .others) ∙ drop-drop 1 i waiting₀ in
+      let later : drop (i + 1) waiting ≡ drop (i + 1) waiting₀ =
+      sym (drop-drop 1 i waiting) ∙ ap (λ (l : List ℕ). drop 1 l) (s .there .others) ∙ drop-drop 1 i waiting₀ in
       record {
         long = length-set waiting i _ ∙ s .long;
         far = omega arith;

@@ -1,11 +1,13 @@
--- What a host may rely on, from the promises of the two calls alone and whatever the memory: a port comes back as it was, and so does what was written down.
+-- What a host may rely on, whatever the memory: a port comes back as it was, and so does what was written down. It follows from what the two calls
+-- promise.
 -- Assumes nothing.
 use mathlib.Core.Path.{_≡_, refl, sym, ap, subst, _∙_}
 use mathlib.Core.HLevel.{⊥-prop}
 use mathlib.Core.Logic.{_↔_, _⊎_, inl, inr, ∥∥₁-elim}
 use mathlib.Core.Bool.{Bool, true, false, cond, _&&_, false≢true}
 use mathlib.Core.List.{List, [], _∷_, _++_, List·Nodup, nodup-nil, nodup-cons, not-mem-nil}
-use mathlib.Core.List.{List·Memᴰ, List·Memᴰ·head, Memᴰ·append-left, Memᴰ·append-right, List·Memᴰ·append-cases, List·Memᴰ·eq-of-singleton, List·Memᴰ·not-nil}
+use mathlib.Core.List.{List·Memᴰ, List·Memᴰ·head, List·Memᴰ·append-cases, List·Memᴰ·eq-of-singleton, List·Memᴰ·not-nil}
+use mathlib.Core.List.{Memᴰ·append-left, Memᴰ·append-right}
 use Prim.Native.Nat.{ℕ, _+_, _*_, _/_, _%_, _≤_, _<_}
 use native.Mathlib.Omega.{arith}
 use lib.ListN.{length, take}
@@ -22,12 +24,11 @@ use Rattle.serial_saved.proofs.Bringing.{too-many, enough}
 
 -- ---- The word of a restore, taken apart
 
-pub restore-word : (reachable : Bool) (o : Restore)
-    → let word = restoreWord reachable o in (word % 0x1_0000 ≡ cond reachable 1 0) × ((word / 0x1_0000 % 2 ≡ cond (o .refused) 1 0) × (word / 0x2_0000 ≡ o .raises))
+pub restore-word : (reachable : Bool) (o : Restore) → let word = restoreWord reachable o in
+    (word % 0x1_0000 ≡ cond reachable 1 0) × ((word / 0x1_0000 % 2 ≡ cond (o .refused) 1 0) × (word / 0x2_0000 ≡ o .raises))
 restore-word reachable o = go reachable (o .refused)
   where
-    go : (reachable refused : Bool)
-        → let word = cond reachable 1 0 + cond refused 0x1_0000 0 + 0x2_0000 * o .raises in
+    go : (reachable refused : Bool) → let word = cond reachable 1 0 + cond refused 0x1_0000 0 + 0x2_0000 * o .raises in
         (word % 0x1_0000 ≡ cond reachable 1 0) × ((word / 0x1_0000 % 2 ≡ cond refused 1 0) × (word / 0x2_0000 ≡ o .raises))
     go true true = (omega arith, (omega arith, omega arith))
     go true false = (omega arith, (omega arith, omega arith))
@@ -94,7 +95,7 @@ module _ {regs pos ring w saved w′ : List ℕ} {n : ℕ} (s : Saves regs pos r
 
     -- A port that runs reach is one still, and the word says so.
     pub saved-reachable : Reachable capacity (portOf regs pos ring) → (r % 0x1_0000 ≡ 1) × Reachable capacity (portOf regs′ pos′ ring′)
-    saved-reachable k = (reachable-exactly b .1 (subst (λ (p : Port). Reachable capacity p) (sym (s .holds)) k), subst (λ (p : Port). Reachable capacity p) (sym same-port) k)
+    saved-reachable k = (reachable-exactly b .1 (rw (s .holds) k), rw same-port k)
 
 -- ---- What is raised again
 
@@ -143,4 +144,7 @@ module _ (p : Port) where
   -- A source is raised again exactly if it is enabled and marked, each at most once, and so two at most.
   pub raises-exactly-told : ((s : Source) → List·Memᴰ s (raisedAgain p) ↔ ((enabled p s ≡ true) × (marked p s ≡ true)))
       × (List·Nodup (raisedAgain p) × (length (raisedAgain p) ≤ 2))
-  raises-exactly-told = (λ s. let t = both-true (enabled p s) (marked p s) in (λ m. t .0 (raised-told s m), λ k. told-raised s (t .1 k)), (none-twice, at-most-two p))
+  raises-exactly-told = (
+    λ s. let t = both-true (enabled p s) (marked p s) in (λ m. t .0 (raised-told s m), λ k. told-raised s (t .1 k)),
+    (none-twice, at-most-two p),
+  )

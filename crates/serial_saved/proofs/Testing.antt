@@ -7,7 +7,7 @@ use mathlib.Core.List.{List, [], _∷_}
 use Prim.Native.Nat.{ℕ, zero, suc, _≤_, _<_}
 use native.Mathlib.Omega.{arith}
 use lib.Bits.{bitAnd}
-use lib.Dec.{lit<, ltb, eqb}
+use lib.Dec.{lit<, ltb}
 use lib.ListN.{length, getD}
 use borrow.Author.Tests.{eq-eqb, ne-eqb, ltb-true, lt-ltb, not-true, not-false}
 use Rattle.common.specs.Bits.{on}
@@ -20,16 +20,16 @@ use Rattle.serial_saved.specs.Inside.{TransmitterRead, ReceiverRead}
 
 -- ---- Answers, and bits
 
-pub so : {A : Type 0} → A → (true ≡ true) ↔ A
+so : {A : Type 0} → A → (true ≡ true) ↔ A
 so a = (λ e. a, λ h. refl)
 
-pub not-so : {A : Type 0} → (A → ⊥) → (false ≡ true) ↔ A
+not-so : {A : Type 0} → (A → ⊥) → (false ≡ true) ↔ A
 not-so n = (λ e. absurd (false≢true e), λ a. absurd (n a))
 
-pub is-off : (x mask : ℕ) → bitAnd x mask ≡ 0 → on x mask ≡ false
+is-off : (x mask : ℕ) → bitAnd x mask ≡ 0 → on x mask ≡ false
 is-off x mask e = rw (eq-eqb _ _ e)
 
-pub is-on : (x mask : ℕ) → (bitAnd x mask ≡ 0 → ⊥) → on x mask ≡ true
+is-on : (x mask : ℕ) → (bitAnd x mask ≡ 0 → ⊥) → on x mask ≡ true
 is-on x mask d = rw (ne-eqb _ _ d)
 
 -- ---- Bytes
@@ -118,15 +118,18 @@ module _ (ier iir : ℕ) where
     pub marked-receiver : (bitAnd iir 4 ≡ 0 → ⊥) → (true ≡ true) ↔ ReceiverRead ier iir q
     marked-receiver z = so (λ e u w t f. two-ways (is-on iir 4 z) u)
 
-    pub none-marked : bitAnd iir 2 ≡ 0 → (true ≡ true) ↔ ReceiverRead ier iir q
-    none-marked z = so (λ e u w t f. two-ways t (is-off iir 2 z))
+    pub neither-marked : bitAnd iir 2 ≡ 0 → (true ≡ true) ↔ ReceiverRead ier iir q
+    neither-marked z = so (λ e u w t f. two-ways t (is-off iir 2 z))
 
     pub enabled-transmitter : (bitAnd ier 2 ≡ 0 → ⊥) → (true ≡ true) ↔ ReceiverRead ier iir q
     enabled-transmitter z = so (λ e u w t f. two-ways (is-on ier 2 z) f)
 
     pub unmarked-receiver : (n : ℕ) → length q ≡ n → (bitAnd ier 1 ≡ 0 → ⊥) → bitAnd iir 4 ≡ 0 → (bitAnd iir 2 ≡ 0 → ⊥) → bitAnd ier 2 ≡ 0
         → (ltb n capacity ≡ true) ↔ ReceiverRead ier iir q
-    unmarked-receiver n l e u t f = (λ r _ _ _ _ _. rw l (ltb-true n capacity r), λ h. go q l (λ w. h (is-on ier 1 e) (is-off iir 4 u) w (is-on iir 2 t) (is-off ier 2 f)))
+    unmarked-receiver n l e u t f = (
+      λ r _ _ _ _ _. rw l (ltb-true n capacity r),
+      λ h. go q l (λ w. h (is-on ier 1 e) (is-off iir 4 u) w (is-on iir 2 t) (is-off ier 2 f)),
+    )
       where
         go : (q : List ℕ) → length q ≡ n → (some q ≡ true → length q < capacity) → ltb n capacity ≡ true
         go [] l h = lt-ltb n capacity (omega arith)
@@ -135,23 +138,26 @@ module _ (ier iir : ℕ) where
 -- ---- All clauses
 
 module _ (saved waiting : List ℕ) where
-  pub wide-ier : 16 ≤ getD saved 1 0 → (false ≡ true) ↔ Reachable capacity (savedOf saved waiting)
+  abbrev No : Type 0
+  No = (false ≡ true) ↔ Reachable capacity (savedOf saved waiting)
+
+  pub wide-ier : 16 ≤ getD saved 1 0 → No
   unfolding savedOf portOf
   wide-ier h = not-so (λ k. omega (arith, k .settings .ier))
 
-  pub other-msr : (getD saved 6 0 ≡ 0xb0 → ⊥) → (false ≡ true) ↔ Reachable capacity (savedOf saved waiting)
+  pub other-msr : (getD saved 6 0 ≡ 0xb0 → ⊥) → No
   unfolding savedOf portOf
   other-msr d = not-so (λ k. d (k .msr))
 
-  pub other-lsr : (status : ℕ) → status ≡ cond (some waiting) 0x61 0x60 → (getD saved 5 0 ≡ status → ⊥) → (false ≡ true) ↔ Reachable capacity (savedOf saved waiting)
+  pub other-lsr : (status : ℕ) → status ≡ cond (some waiting) 0x61 0x60 → (getD saved 5 0 ≡ status → ⊥) → No
   unfolding savedOf portOf
   other-lsr status e d = not-so (λ k. d (k .lsr ∙ sym e))
 
-  pub other-marks : {r : Bool} → (r ≡ true) ↔ Marks (getD saved 2 0) waiting → not r ≡ true → (false ≡ true) ↔ Reachable capacity (savedOf saved waiting)
+  pub other-marks : {r : Bool} → (r ≡ true) ↔ Marks (getD saved 2 0) waiting → not r ≡ true → No
   unfolding savedOf portOf
   other-marks m f = not-so (λ k. two-ways (m .1 (k .marks)) (not-true _ f))
 
-  pub never-read : {r : Bool} → (r ≡ true) ↔ TransmitterRead (getD saved 1 0) (getD saved 2 0) → not r ≡ true → (false ≡ true) ↔ Reachable capacity (savedOf saved waiting)
+  pub never-read : {r : Bool} → (r ≡ true) ↔ TransmitterRead (getD saved 1 0) (getD saved 2 0) → not r ≡ true → No
   unfolding savedOf portOf
   never-read t f = not-so (λ k. two-ways (t .1 (k .unmarked .transmitter-read)) (not-true _ f))
 
@@ -163,7 +169,14 @@ module _ (saved waiting : List ℕ) where
   unfolding savedOf portOf
   decided b w f ier msr status lsr m marked t was-read r = (
     λ e. record {
-      settings = record { ier = ier; lcr = byte-at saved b 3; mcr = byte-at saved b 4; scr = byte-at saved b 7; dll = byte-at saved b 0; dlm = byte-at saved b 8 };
+      settings = record {
+        ier = ier;
+        lcr = byte-at saved b 3;
+        mcr = byte-at saved b 4;
+        scr = byte-at saved b 7;
+        dll = byte-at saved b 0;
+        dlm = byte-at saved b 8;
+      };
       marks = m .0 (not-false _ marked);
       unmarked = record { transmitter-read = t .0 (not-false _ was-read); receiver-read = r .0 e };
       lsr = lsr ∙ status;

@@ -17,6 +17,7 @@ ghost use Rattle.serial_saved.specs.Inside.{Unrolled, Raised};
 // How many bytes may wait.
 const CAPACITY: usize = ring::CAPACITY as usize;
 
+// The nine registers.
 fn copy(from: &[u8; 9], to: &mut [u8; 9])
     ensures { λ r. ⌜ now (to .exit) ≡ now (from .entry) ⌝ }
 {

@@ -95,6 +95,7 @@ fn status(n: usize) -> u8
     0x61
 }
 
+// All clauses. LCR, MCR, SCR and the divisor may be any bytes, and so may those that wait.
 pub fn is_reachable(saved: &[u8; 9], waiting: &[u8]) -> bool
     requires { ⌜ length (now waiting) ≤ capacity ⌝ }
     ensures { λ r. ⌜ (r ≡ true) ↔ Reachable capacity (savedOf (now (saved .entry)) (now (waiting .entry))) ⌝ }

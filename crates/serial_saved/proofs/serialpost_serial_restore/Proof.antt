@@ -12,7 +12,7 @@ use Rattle.serial_saved.proofs.serialpost_serial_restore.Tie as tie
 returns : tie.Need-returns
 returns c =
     let a = c .before .before .args in
-    refuses (a .saved .now) (a .waiting .now) (a .regs .now) (a .pos .now) (a .ring .now) (c .if1 .taken)
+    refuses (a .saved .now) (a .waiting .now) (a .regs .now) (a .pos .now) (a .ring .now) (omega (arith, c .if1 .taken))
 
 two-requires : tie.Need-two-requires
 two-requires c κs = search needs
@@ -56,7 +56,7 @@ add-result c = omega (arith, raised c, as-number (c .before .is-reachable .resul
 returns-2 : tie.Need-returns-2
 returns-2 c =
     let a = c .before .before .before .before .before .before .before .before .before .before .args in
-    restores (a .saved .now) (a .waiting .now) (a .regs .now) (a .pos .now) (a .ring .now) _ _ _ _ (c .before .before .before .before .before .before .before .before .if1 .left)
+    restores (a .saved .now) (a .waiting .now) (a .regs .now) (a .pos .now) (a .ring .now) _ _ _ _ (omega (arith, c .before .before .before .before .before .before .before .before .if1 .left))
     (c .before .before .before .before .before .before .two .ensures) (c .before .before .before .before .copy .ensures) (c .before .before .fill .ensures)
     (c .before .is-reachable .ensures) (c .raises .ensures (a .waiting .now))
 

@@ -1,6 +1,7 @@
 -- Each answer is a law of `Testing`.
 -- Assumes nothing.
 use mathlib.Core.Path.{refl}
+use native.Mathlib.Omega.{arith}
 use Rattle.serial_saved.proofs.Testing.{wide-ier, other-msr, other-lsr, other-marks, never-read, decided}
 use borrow.Author.Needs.{needs}
 use Rattle.serial_saved.proofs.reachable.is_reachable.Statement.{statement}
@@ -21,7 +22,7 @@ element-copy-out-iir c = search needs
 returns : tie.Need-returns
 returns c =
     let a = c .before .before .before .before .before .before .before .args in
-    wide-ier (a .saved .now) (a .waiting .now) (c .if1 .taken)
+    wide-ier (a .saved .now) (a .waiting .now) (omega (arith, c .if1 .taken))
 
 element-copy-out-if2 : tie.Need-element-copy-out-if2
 element-copy-out-if2 c = search needs
@@ -68,7 +69,7 @@ returns-6 c =
     (c .before .before .before .before .before .before .before .before .before .before .before .before .before .before .all-bytes .ensures)
     (c .before .before .before .before .before .before .before .before .before .before .before .before .before .all-bytes2 .ensures)
     (c .before .before .before .before .before .before .before .before .before .before .before .before .before .before .before .before .before .pre)
-    (c .before .before .before .before .before .before .before .before .before .before .if1 .left) (c .before .before .before .before .before .before .before .before .if2 .left)
+    (omega (arith, c .before .before .before .before .before .before .before .before .before .before .if1 .left)) (c .before .before .before .before .before .before .before .before .if2 .left)
     (c .before .before .before .before .before .before .status .ensures (a .waiting .now) refl) (c .before .before .before .before .before .if3 .left)
     (c .before .before .before .before .are-marks .ensures (a .waiting .now) refl) (c .before .before .before .if4 .left)
     (c .before .before .is-transmitter-read .ensures) (c .before .if5 .left) (c .is-receiver-read .ensures (a .waiting .now) refl)

@@ -1,6 +1,6 @@
 -- Each answer is a law of `Testing`.
 -- Assumes nothing.
-use Rattle.serial_saved.proofs.Testing.{disabled-receiver, marked-receiver, none-marked, enabled-transmitter, unmarked-receiver}
+use Rattle.serial_saved.proofs.Testing.{disabled-receiver, marked-receiver, neither-marked, enabled-transmitter, unmarked-receiver}
 use Rattle.serial_saved.proofs.reachable.is_receiver_read.Statement.{statement}
 use Rattle.serial_saved.proofs.reachable.is_receiver_read.Tie as tie
 
@@ -17,7 +17,7 @@ returns-2 c =
 returns-3 : tie.Need-returns-3
 returns-3 c =
     let a = c .before .before .before .args in
-    λ q l. none-marked (a .ier) (a .iir) q (c .if3 .taken)
+    λ q l. neither-marked (a .ier) (a .iir) q (c .if3 .taken)
 
 returns-4 : tie.Need-returns-4
 returns-4 c =
