@@ -1,8 +1,9 @@
 //! The replay format's answers, and how each is printed.
 
-use crate::devices::{ClockState, Raised, SerialState};
+use crate::devices::{ClockState, Raised, Restored, SerialState};
 use crate::format::Device;
 
+/// `Wrote` has the byte sent, `Taken` how many bytes, and `RestoredSerial` none if it was refused.
 #[derive(Clone, Debug, PartialEq, Eq)]
 pub enum Answer {
     Started(Device),
@@ -11,10 +12,14 @@ pub enum Answer {
     Taken(Option<usize>, Raised),
     Room(usize),
     Serial(SerialState),
+    SavedSerial(SerialState),
+    RestoredSerial(Option<Restored>),
     NowSet,
     WroteWord { valid: bool },
     ReadWord { data: [u8; 4], valid: bool },
     Clock(ClockState),
+    SavedClock(ClockState),
+    RestoredClock { reached: bool },
     WroteI8042 { reset: bool },
     ReadI8042(u8),
     NotUnderstood,
@@ -50,7 +55,14 @@ impl Answer {
                 text(out, "room");
                 spaced_decimal(out, *room as u64);
             }
-            Answer::Serial(state) => serial_state(out, state),
+            Answer::Serial(state) => serial_state(out, "state", state),
+            Answer::SavedSerial(state) => serial_state(out, "save", state),
+            Answer::RestoredSerial(Some(restored)) => {
+                text(out, "restore");
+                spaced_decimal(out, u64::from(restored.raised));
+                text(out, reached(restored.reached));
+            }
+            Answer::RestoredSerial(None) => text(out, "restore full"),
             Answer::NowSet => text(out, "now"),
             Answer::WroteWord { valid } => text(out, if *valid { "w ok" } else { "w invalid" }),
             Answer::ReadWord { data, valid } => {
@@ -58,7 +70,12 @@ impl Answer {
                 hex(out, data);
                 text(out, if *valid { " ok" } else { " invalid" });
             }
-            Answer::Clock(state) => clock_state(out, state),
+            Answer::Clock(state) => clock_state(out, "state", state),
+            Answer::SavedClock(state) => clock_state(out, "save", state),
+            Answer::RestoredClock { reached: yes } => {
+                text(out, "restore");
+                text(out, reached(*yes));
+            }
             Answer::WroteI8042 { reset } => text(out, if *reset { "w reset" } else { "w --" }),
             Answer::ReadI8042(value) => {
                 text(out, "r ");
@@ -70,8 +87,16 @@ impl Answer {
     }
 }
 
-fn serial_state(out: &mut Vec<u8>, state: &SerialState) {
-    text(out, "state");
+fn reached(yes: bool) -> &'static str {
+    if yes {
+        " reached"
+    } else {
+        " unreached"
+    }
+}
+
+fn serial_state(out: &mut Vec<u8>, word: &str, state: &SerialState) {
+    text(out, word);
     for register in state.registers {
         out.push(b' ');
         hex(out, &[register]);
@@ -85,8 +110,9 @@ fn serial_state(out: &mut Vec<u8>, state: &SerialState) {
     }
 }
 
-fn clock_state(out: &mut Vec<u8>, state: &ClockState) {
-    text(out, "state ");
+fn clock_state(out: &mut Vec<u8>, word: &str, state: &ClockState) {
+    text(out, word);
+    out.push(b' ');
     hex(out, &state.load.to_be_bytes());
     out.push(b' ');
     hex(out, &state.offset.to_be_bytes());
@@ -136,6 +162,13 @@ mod tests {
         assert_eq!(printed(Answer::Taken(Some(64), 1)), "b 64 1\n");
         assert_eq!(printed(Answer::Taken(None, 0)), "b full 0\n");
         assert_eq!(printed(Answer::NotUnderstood), "?\n");
+        let restored = |raised, reached| Answer::RestoredSerial(Some(Restored { raised, reached }));
+        assert_eq!(printed(restored(0, true)), "restore 0 reached\n");
+        assert_eq!(printed(restored(2, false)), "restore 2 unreached\n");
+        assert_eq!(printed(Answer::RestoredSerial(None)), "restore full\n");
+        let restored = |reached| Answer::RestoredClock { reached };
+        assert_eq!(printed(restored(true)), "restore reached\n");
+        assert_eq!(printed(restored(false)), "restore unreached\n");
     }
 
     #[test]
@@ -147,6 +180,10 @@ mod tests {
         assert_eq!(
             printed(Answer::Serial(serial.clone())),
             "state 0c 00 01 01 03 61 08 b0 00 2 6263\n"
+        );
+        assert_eq!(
+            printed(Answer::SavedSerial(serial.clone())),
+            "save 0c 00 01 01 03 61 08 b0 00 2 6263\n"
         );
         serial.buffer.clear();
         assert_eq!(
@@ -163,6 +200,10 @@ mod tests {
         assert_eq!(
             printed(Answer::Clock(clock)),
             "state 00000005 fffffffffffffc18 80000000 00000001 00000000\n"
+        );
+        assert_eq!(
+            printed(Answer::SavedClock(clock)),
+            "save 00000005 fffffffffffffc18 80000000 00000001 00000000\n"
         );
     }
 }

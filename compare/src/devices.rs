@@ -20,6 +20,14 @@ pub struct ClockState {
     pub raw: u32,
 }
 
+/// What bringing a serial port's state back came to: how often the interrupt is raised, and whether a run
+/// from a fresh port could have reached the state.
+#[derive(Clone, Copy, Debug, PartialEq, Eq)]
+pub struct Restored {
+    pub raised: Raised,
+    pub reached: bool,
+}
+
 pub trait Serial {
     /// Answers the byte sent, if one was.
     fn write(&mut self, offset: u8, value: u8) -> (Option<u8>, Raised);
@@ -28,6 +36,8 @@ pub trait Serial {
     fn input(&mut self, bytes: &[u8]) -> (Option<usize>, Raised);
     fn room(&self) -> usize;
     fn state(&self) -> SerialState;
+    /// Brings a state back, or answers none if it is refused because more bytes wait than there is room for.
+    fn restore(&mut self, state: &SerialState) -> Option<Restored>;
 }
 
 /// `now` is the host's time in seconds. An access answers whether it was valid.
@@ -35,6 +45,8 @@ pub trait Clock {
     fn write(&mut self, now: u64, offset: u16, data: &[u8; 4]) -> bool;
     fn read(&mut self, now: u64, offset: u16, data: &mut [u8; 4]) -> bool;
     fn state(&self) -> ClockState;
+    /// Brings a state back, and answers whether a run from a fresh clock could have reached it.
+    fn restore(&mut self, state: &ClockState) -> bool;
 }
 
 pub trait I8042 {

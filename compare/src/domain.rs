@@ -6,6 +6,7 @@
 //! list on which devices that announce are compared with an older original.
 
 use crate::account::Account;
+use crate::devices::{Clock, ClockState, Serial, SerialState};
 use crate::driver::{Current, Driver};
 use crate::format::{self, Operation};
 
@@ -44,6 +45,22 @@ impl Place {
         match self.driver.current() {
             Current::Serial(port) => port.buffer.len(),
             _ => 0,
+        }
+    }
+
+    /// The state of the serial port, if that is the current device.
+    pub fn port(&self) -> Option<SerialState> {
+        match self.driver.current() {
+            Current::Serial(port) => Some(port.state()),
+            _ => None,
+        }
+    }
+
+    /// The state of the clock, if that is the current device.
+    pub fn clock(&self) -> Option<ClockState> {
+        match self.driver.current() {
+            Current::Clock { clock, .. } => Some(clock.state()),
+            _ => None,
         }
     }
 }

@@ -3,7 +3,7 @@
 use std::io::{self, BufRead, Write};
 
 use crate::answer::Answer;
-use crate::devices::{Clock, Devices, Serial, I8042};
+use crate::devices::{Clock, ClockState, Devices, Serial, SerialState, I8042};
 use crate::format::{self, Device, Operation};
 
 /// The device that operations speak to, until another one is started.
@@ -14,9 +14,17 @@ pub enum Current<D: Devices> {
     I8042(D::I8042),
 }
 
+/// What was saved last, of each kind. It outlives the device that it was saved from.
+#[derive(Default)]
+struct Kept {
+    serial: Option<SerialState>,
+    clock: Option<ClockState>,
+}
+
 pub struct Driver<D: Devices> {
     devices: D,
     current: Current<D>,
+    kept: Kept,
 }
 
 impl<D: Devices> Driver<D> {
@@ -24,6 +32,7 @@ impl<D: Devices> Driver<D> {
         Driver {
             devices,
             current: Current::None,
+            kept: Kept::default(),
         }
     }
 
@@ -46,8 +55,8 @@ impl<D: Devices> Driver<D> {
         }
         match &mut self.current {
             Current::None => Answer::NotUnderstood,
-            Current::Serial(serial) => on_serial(serial, operation),
-            Current::Clock { clock, now } => on_clock(clock, now, operation),
+            Current::Serial(serial) => on_serial(serial, &mut self.kept.serial, operation),
+            Current::Clock { clock, now } => on_clock(clock, now, &mut self.kept.clock, operation),
             Current::I8042(i8042) => on_i8042(i8042, operation),
         }
     }
@@ -65,7 +74,11 @@ impl<D: Devices> Driver<D> {
     }
 }
 
-fn on_serial(serial: &mut impl Serial, operation: &Operation) -> Answer {
+fn on_serial(
+    serial: &mut impl Serial,
+    kept: &mut Option<SerialState>,
+    operation: &Operation,
+) -> Answer {
     match operation {
         Operation::WriteByte { offset, value } => {
             let (sent, raised) = serial.write(*offset, *value);
@@ -81,11 +94,22 @@ fn on_serial(serial: &mut impl Serial, operation: &Operation) -> Answer {
         }
         Operation::Room => Answer::Room(serial.room()),
         Operation::State => Answer::Serial(serial.state()),
+        Operation::Save => Answer::SavedSerial(kept.insert(serial.state()).clone()),
+        Operation::Restore => match kept {
+            Some(state) => Answer::RestoredSerial(serial.restore(state)),
+            None => Answer::NotUnderstood,
+        },
+        Operation::RestoreSerial(state) => Answer::RestoredSerial(serial.restore(state)),
         _ => Answer::NotUnderstood,
     }
 }
 
-fn on_clock(clock: &mut impl Clock, now: &mut u64, operation: &Operation) -> Answer {
+fn on_clock(
+    clock: &mut impl Clock,
+    now: &mut u64,
+    kept: &mut Option<ClockState>,
+    operation: &Operation,
+) -> Answer {
     match operation {
         Operation::Now(time) => {
             *now = *time;
@@ -100,6 +124,16 @@ fn on_clock(clock: &mut impl Clock, now: &mut u64, operation: &Operation) -> Ans
             Answer::ReadWord { data, valid }
         }
         Operation::State => Answer::Clock(clock.state()),
+        Operation::Save => Answer::SavedClock(*kept.insert(clock.state())),
+        Operation::Restore => match kept {
+            Some(state) => Answer::RestoredClock {
+                reached: clock.restore(state),
+            },
+            None => Answer::NotUnderstood,
+        },
+        Operation::RestoreClock(state) => Answer::RestoredClock {
+            reached: clock.restore(state),
+        },
         _ => Answer::NotUnderstood,
     }
 }
@@ -132,4 +166,84 @@ pub fn serve(devices: impl Devices, mut input: impl BufRead, output: impl Write)
         line.clear();
     }
     output.flush()
+}
+
+#[cfg(test)]
+mod tests {
+    use super::*;
+    use crate::account::Account;
+
+    /// Holds the answers of one driver to the lines: `line => answer`.
+    fn answers_are(told: &[&str]) {
+        let mut driver = Driver::new(Account::default());
+        for line in told {
+            let (line, told) = line.split_once(" => ").unwrap();
+            let mut answer = Vec::new();
+            driver.answer(line.as_bytes()).print(&mut answer);
+            assert_eq!(String::from_utf8_lossy(&answer).trim_end(), told, "{line}");
+        }
+    }
+
+    #[test]
+    fn what_was_saved_outlives_its_device() {
+        answers_are(&[
+            "restore => ?",
+            "serial => serial",
+            "restore => ?",
+            "w 01 01 => w -- 0",
+            "b 6162 => b 2 1",
+            "save => save 0c 00 01 04 03 61 08 b0 00 2 6162",
+            "r 00 => r 61 0",
+            "restore => restore 1 reached",
+            "r 00 => r 61 0",
+            "clock => clock",
+            "restore => ?",
+            "i8042 => i8042",
+            "save => ?",
+            "restore => ?",
+            "serial => serial",
+            "restore => restore 1 reached",
+            "r 00 => r 61 0",
+        ]);
+    }
+
+    #[test]
+    fn the_time_is_no_part_of_a_clock() {
+        answers_are(&[
+            "clock => clock",
+            "now 1000 => now",
+            "w 0008 d0070000 => w ok",
+            "save => save 000007d0 00000000000003e8 00000000 00000000 00000000",
+            "now 5 => now",
+            "restore => restore reached",
+            "r 0000 00000000 => r ed030000 ok",
+            "clock => clock",
+            "restore => restore reached",
+            "r 0000 00000000 => r e8030000 ok",
+        ]);
+    }
+
+    #[test]
+    fn a_state_that_was_made_up_is_not_kept() {
+        answers_are(&[
+            "serial => serial",
+            "restore 00 00 00 00 00 00 00 00 55 - => restore 0 unreached",
+            "restore => ?",
+            "save => save 00 00 00 00 00 00 00 00 55 0 -",
+            "restore 00 00 00 00 00 00 00 00 66 - => restore 0 unreached",
+            "restore => restore 0 unreached",
+            "r 07 => r 55 0",
+        ]);
+    }
+
+    #[test]
+    fn a_refused_state_changes_nothing() {
+        let full = format!("restore 00 00 03 06 00 00 00 00 55 {}", "61".repeat(65));
+        answers_are(&[
+            "serial => serial",
+            "b 7a => b 1 0",
+            &format!("{full} => restore full"),
+            "state => state 0c 00 00 01 03 61 08 b0 00 1 7a",
+        ]);
+    }
 }

@@ -1,8 +1,9 @@
 //! The account with one fault planted in it, to see that the judge finds it. Each device here is the
 //! account's, corrected for the worse before or after the call.
 
-use crate::account::{self, clock::cut, serial::Register, serial::LSR_DATA_READY, Account};
-use crate::devices::{self, ClockState, Devices, Raised, SerialState};
+use crate::account::serial::{Register, LSR_DATA_READY, RECEIVED_DATA, SIZE};
+use crate::account::{self, clock::cut, reached, Account};
+use crate::devices::{self, ClockState, Devices, Raised, Restored, SerialState};
 use crate::format::Device;
 
 #[derive(Clone, Copy, Debug, PartialEq, Eq)]
@@ -16,10 +17,20 @@ pub enum Fault {
     IdentifyKeeps,
     WiresSwapped,
     SecondPortRemembers,
+    RestoreDropsByte,
+    RestoreForgetsRaise,
+    RestoreDoublesRaise,
+    RestoreAccepts65,
+    RefusalChanges,
+    ReachedWithoutByte,
+    ReachedThoughFull,
     SumWraps,
     ClearReadZeroes,
     IdentityUnaligned,
     TimeNotCut,
+    RestoreCutsOffset,
+    RestoreClearsStatus,
+    ReachedTooFar,
     ResetsOnFf,
     ResetsOnDataPort,
     ReadsUpperCase,
@@ -33,7 +44,7 @@ const I8042: Option<Device> = Some(Device::I8042);
 /// Each fault with the device it is in (or none, if it is in the reading of lines), the name it is asked
 /// for by, and what is wrong.
 #[rustfmt::skip]
-pub const FAULTS: [(Fault, Option<Device>, &str, &str); 16] = [
+pub const FAULTS: [(Fault, Option<Device>, &str, &str); 26] = [
     (AcceptsByte65, SERIAL, "accepts-byte-65", "in loopback a full buffer accepts one more byte"),
     (DataReadyStays, SERIAL, "data-ready-stays", "LSR says that data is ready after the last byte was read"),
     (DataReadyGoesEarly, SERIAL, "data-ready-goes-early", "LSR says that no data is ready while bytes wait"),
@@ -43,10 +54,20 @@ pub const FAULTS: [(Fault, Option<Device>, &str, &str); 16] = [
     (IdentifyKeeps, SERIAL, "identify-keeps", "reading IIR does not reset it"),
     (WiresSwapped, SERIAL, "wires-swapped", "in loopback CTS follows DTR, and DSR follows RTS"),
     (SecondPortRemembers, SERIAL, "second-port-remembers", "a second fresh port has a scratch register of 1"),
+    (RestoreDropsByte, SERIAL, "restore-drops-byte", "the last byte of a state is not brought back"),
+    (RestoreForgetsRaise, SERIAL, "restore-forgets-raise", "where both kinds are to be raised again, only one is"),
+    (RestoreDoublesRaise, SERIAL, "restore-doubles-raise", "received data is raised again twice"),
+    (RestoreAccepts65, SERIAL, "restore-accepts-65", "a state with 65 bytes is brought back"),
+    (RefusalChanges, SERIAL, "refusal-changes", "a state that is refused changes the scratch register"),
+    (ReachedWithoutByte, SERIAL, "reached-without-byte", "received data may be marked though no byte waits"),
+    (ReachedThoughFull, SERIAL, "reached-though-full", "received data may have been unmarked by a read though the buffer is full"),
     (SumWraps, CLOCK, "sum-wraps", "a time that does not fit 32 bits wraps around"),
     (ClearReadZeroes, CLOCK, "clear-read-zeroes", "a read of 0x1c writes zeros into the caller's bytes"),
     (IdentityUnaligned, CLOCK, "identity-unaligned", "identity bytes answer at multiples of four only"),
     (TimeNotCut, CLOCK, "time-not-cut", "the clock is set from the host's time in 64 bits"),
+    (RestoreCutsOffset, CLOCK, "restore-cuts-offset", "of an offset 33 bits are brought back"),
+    (RestoreClearsStatus, CLOCK, "restore-clears-status", "the raw status is not brought back"),
+    (ReachedTooFar, CLOCK, "reached-too-far", "a clock may be 2^32 seconds behind its load register"),
     (ResetsOnFf, I8042, "resets-on-ff", "0xff at offset 4 resets the machine too"),
     (ResetsOnDataPort, I8042, "resets-on-data-port", "0xfe at offset 0 resets the machine too"),
     (ReadsUpperCase, None, "reads-upper-case", "letters of a line may be upper-case"),
@@ -149,6 +170,61 @@ impl devices::Serial for Serial {
     fn state(&self) -> SerialState {
         self.port.state()
     }
+
+    fn restore(&mut self, state: &SerialState) -> Option<Restored> {
+        if self.fault == RestoreAccepts65 && state.buffer.len() == 65 {
+            let (last, first) = state.buffer.split_last()?;
+            let restored = self.port.restore(&with_buffer(state, first));
+            self.port.buffer.push_back(*last);
+            return restored.map(|restored| Restored {
+                reached: false,
+                ..restored
+            });
+        }
+        let Some(mut restored) = self.port.restore(state) else {
+            if self.fault == RefusalChanges {
+                self.port.set(Register::Scr, state.registers[8]);
+            }
+            return None;
+        };
+        let [_, _, ier, iir, ..] = state.registers;
+        match self.fault {
+            RestoreDropsByte => drop(self.port.buffer.pop_back()),
+            RestoreForgetsRaise => restored.raised = restored.raised.min(1),
+            RestoreDoublesRaise
+                if RECEIVED_DATA.is_enabled(ier) && RECEIVED_DATA.is_marked(iir) =>
+            {
+                restored.raised += 1;
+            }
+            ReachedWithoutByte if state.buffer.is_empty() => {
+                restored.reached |= reached::serial(&without_received_data(state));
+            }
+            ReachedThoughFull if state.buffer.len() == SIZE => {
+                restored.reached |= reached::serial(&with_buffer(state, &state.buffer[1..]));
+            }
+            _ => {}
+        }
+        Some(restored)
+    }
+}
+
+/// The same state, but that received data is not marked.
+fn without_received_data(state: &SerialState) -> SerialState {
+    let mut other = state.clone();
+    let iir = &mut other.registers[Register::Iir as usize];
+    *iir = match *iir {
+        0x04 => 0x01,
+        0x06 => 0x02,
+        iir => iir,
+    };
+    other
+}
+
+fn with_buffer(state: &SerialState, buffer: &[u8]) -> SerialState {
+    SerialState {
+        registers: state.registers,
+        buffer: buffer.to_vec(),
+    }
 }
 
 pub struct Clock {
@@ -182,6 +258,21 @@ impl devices::Clock for Clock {
 
     fn state(&self) -> ClockState {
         self.clock.state()
+    }
+
+    fn restore(&mut self, state: &ClockState) -> bool {
+        let mut brought = *state;
+        match self.fault {
+            RestoreCutsOffset => brought.offset = brought.offset << 31 >> 31,
+            RestoreClearsStatus => brought.raw = 0,
+            _ => {}
+        }
+        self.clock.restore(&brought);
+        let later = ClockState {
+            offset: state.offset.saturating_add(1),
+            ..*state
+        };
+        reached::clock(state) || self.fault == ReachedTooFar && reached::clock(&later)
     }
 }
 

@@ -2,6 +2,8 @@
 
 use std::fmt;
 
+use crate::devices::{ClockState, SerialState};
+
 /// A line longer than this many bytes, its ending not counted, is no operation.
 pub const LONGEST_LINE: usize = 8192;
 
@@ -24,8 +26,9 @@ impl Device {
     }
 }
 
-/// What a line asks for. Which device it speaks to follows from its shape, but for `State`, which two
-/// devices have, and for single bytes, which are the serial port's or the reset controller's.
+/// What a line asks for. Which device it speaks to follows from its shape, but for `State`, `Save` and
+/// `Restore` of what was saved last, which two devices have, and for single bytes, which are the serial
+/// port's or the reset controller's.
 #[derive(Clone, Debug, PartialEq, Eq)]
 pub enum Operation {
     Start(Device),
@@ -34,9 +37,25 @@ pub enum Operation {
     Input(Vec<u8>),
     Room,
     State,
+    Save,
+    Restore,
+    RestoreSerial(SerialState),
+    RestoreClock(ClockState),
     Now(u64),
     WriteWord { offset: u16, data: [u8; 4] },
     ReadWord { offset: u16, data: [u8; 4] },
+}
+
+impl Operation {
+    pub fn is_about_saved_states(&self) -> bool {
+        matches!(
+            self,
+            Operation::Save
+                | Operation::Restore
+                | Operation::RestoreSerial(_)
+                | Operation::RestoreClock(_)
+        )
+    }
 }
 
 /// Whether a line gets no answer at all. This comes before the limit on its length: a comment may be
@@ -57,7 +76,11 @@ pub fn parse(line: &[u8]) -> Option<Operation> {
         return None;
     }
     let mut words = line.split(|&byte| byte == b' ');
-    let sentence = (words.next()?, words.next(), words.next());
+    let first = words.next()?;
+    if first == b"restore" {
+        return restore(&words.collect::<Vec<_>>());
+    }
+    let sentence = (first, words.next(), words.next());
     if words.next().is_some() {
         return None;
     }
@@ -67,6 +90,7 @@ pub fn parse(line: &[u8]) -> Option<Operation> {
         (b"i8042", None, None) => Operation::Start(Device::I8042),
         (b"room", None, None) => Operation::Room,
         (b"state", None, None) => Operation::State,
+        (b"save", None, None) => Operation::Save,
         (b"now", Some(time), None) => Operation::Now(decimal(time)?),
         (b"b", None, None) => Operation::Input(Vec::new()),
         (b"b", Some(digits), None) => Operation::Input(some_bytes(digits)?),
@@ -90,6 +114,28 @@ pub fn parse(line: &[u8]) -> Option<Operation> {
     Some(operation)
 }
 
+/// The operation that `restore` with these words asks for.
+fn restore(words: &[&[u8]]) -> Option<Operation> {
+    let operation = match words {
+        [] => Operation::Restore,
+        [load, offset, match_, mask, raw] => Operation::RestoreClock(ClockState {
+            load: u32::from_be_bytes(bytes(load)?),
+            offset: i64::from_be_bytes(bytes(offset)?),
+            match_: u32::from_be_bytes(bytes(match_)?),
+            mask: u32::from_be_bytes(bytes(mask)?),
+            raw: u32::from_be_bytes(bytes(raw)?),
+        }),
+        [words @ .., waiting] => Operation::RestoreSerial(SerialState {
+            registers: registers(words)?,
+            buffer: match *waiting {
+                b"-" => Vec::new(),
+                digits => some_bytes(digits)?,
+            },
+        }),
+    };
+    Some(operation)
+}
+
 /// Whether a line starts a fresh device.
 pub fn is_start(line: &[u8]) -> bool {
     matches!(parse(line), Some(Operation::Start(_)))
@@ -109,6 +155,23 @@ impl fmt::Display for Operation {
             }
             Operation::Room => out.write_str("room"),
             Operation::State => out.write_str("state"),
+            Operation::Save => out.write_str("save"),
+            Operation::Restore => out.write_str("restore"),
+            Operation::RestoreSerial(state) => {
+                out.write_str("restore ")?;
+                for register in state.registers {
+                    write!(out, "{register:02x} ")?;
+                }
+                match &state.buffer[..] {
+                    [] => out.write_str("-"),
+                    waiting => hex(out, waiting),
+                }
+            }
+            Operation::RestoreClock(state) => write!(
+                out,
+                "restore {:08x} {:016x} {:08x} {:08x} {:08x}",
+                state.load, state.offset, state.match_, state.mask, state.raw
+            ),
             Operation::Now(time) => write!(out, "now {time}"),
             Operation::WriteWord { offset, data } => {
                 write!(out, "w {offset:04x} ")?;
@@ -155,6 +218,12 @@ fn bytes<const N: usize>(digits: &[u8]) -> Option<[u8; N]> {
     Some(bytes)
 }
 
+/// Nine bytes, each a word of its own.
+fn registers(words: &[&[u8]]) -> Option<[u8; 9]> {
+    let values: Option<Vec<u8>> = words.iter().map(|digits| byte(digits)).collect();
+    values?.try_into().ok()
+}
+
 /// One byte or more. (An odd number of digits leaves a last chunk of one, which is no byte.)
 fn some_bytes(digits: &[u8]) -> Option<Vec<u8>> {
     if digits.is_empty() {
@@ -195,6 +264,11 @@ mod tests {
             "b 616263",
             "room",
             "state",
+            "save",
+            "restore",
+            "restore 0c 00 01 04 03 61 08 b0 7f 6263",
+            "restore ff ff ff ff ff ff ff ff ff -",
+            "restore 00000005 fffffffffffffc18 80000000 00000001 ffffffff",
             "now 0",
             "now 18446744073709551615",
             "w 0008 05000000",
@@ -216,6 +290,29 @@ mod tests {
     }
 
     #[test]
+    fn a_state_is_read_in_the_order_of_its_answer() {
+        let serial = SerialState {
+            registers: [1, 2, 3, 4, 5, 6, 7, 8, 9],
+            buffer: vec![0x0a, 0x0b],
+        };
+        assert_eq!(
+            parse(b"restore 01 02 03 04 05 06 07 08 09 0a0b"),
+            Some(Operation::RestoreSerial(serial))
+        );
+        let clock = ClockState {
+            load: 1,
+            offset: -2,
+            match_: 3,
+            mask: 4,
+            raw: 5,
+        };
+        assert_eq!(
+            parse(b"restore 00000001 fffffffffffffffe 00000003 00000004 00000005"),
+            Some(Operation::RestoreClock(clock))
+        );
+    }
+
+    #[test]
     fn a_decimal_may_have_leading_zeros() {
         assert_eq!(parse(b"now 007"), Some(Operation::Now(7)));
         let zeros = format!("now {}1", "0".repeat(100));
@@ -224,7 +321,8 @@ mod tests {
 
     #[test]
     fn malformed_lines_are_not_read() {
-        for line in crate::generate::malformed::LINES {
+        use crate::generate::malformed::{LINES, SAVES};
+        for line in LINES.iter().chain(SAVES) {
             assert_eq!(parse(line), None, "{:?}", String::from_utf8_lossy(line));
         }
     }

@@ -1,5 +1,6 @@
 //! Finds a shorter run that still shows a difference.
 
+use crate::devices::{ClockState, SerialState};
 use crate::format::{self, Operation};
 
 pub type Line = Vec<u8>;
@@ -144,7 +145,19 @@ fn simpler_lines(line: &Line) -> Vec<Line> {
 
 fn simpler_operations(operation: &Operation) -> Vec<Operation> {
     match operation {
-        Operation::Start(_) | Operation::Room | Operation::State => Vec::new(),
+        Operation::Start(_)
+        | Operation::Room
+        | Operation::State
+        | Operation::Save
+        | Operation::Restore => Vec::new(),
+        Operation::RestoreSerial(state) => simpler_ports(state)
+            .into_iter()
+            .map(Operation::RestoreSerial)
+            .collect(),
+        Operation::RestoreClock(state) => simpler_clocks(state)
+            .into_iter()
+            .map(Operation::RestoreClock)
+            .collect(),
         Operation::ReadByte { offset } => smaller_bytes(*offset)
             .map(|offset| Operation::ReadByte { offset })
             .collect(),
@@ -179,6 +192,42 @@ fn simpler_words(offset: u16, data: [u8; 4]) -> impl Iterator<Item = (u16, [u8; 
     offsets
         .map(move |offset| (offset as u16, data))
         .chain(values.map(move |value| (offset, (value as u32).to_le_bytes())))
+}
+
+fn simpler_ports(state: &SerialState) -> Vec<SerialState> {
+    let mut ports = Vec::new();
+    for (place, &value) in state.registers.iter().enumerate() {
+        for smaller in smaller_bytes(value) {
+            let mut simpler = state.clone();
+            simpler.registers[place] = smaller;
+            ports.push(simpler);
+        }
+    }
+    for buffer in simpler_inputs(&state.buffer) {
+        let registers = state.registers;
+        ports.push(SerialState { registers, buffer });
+    }
+    ports
+}
+
+fn simpler_clocks(state: &ClockState) -> Vec<ClockState> {
+    let words = |value: u32| {
+        smaller(u64::from(value))
+            .into_iter()
+            .map(|value| value as u32)
+    };
+    let mut clocks = Vec::new();
+    clocks.extend(words(state.load).map(|load| ClockState { load, ..*state }));
+    clocks.extend(words(state.match_).map(|match_| ClockState { match_, ..*state }));
+    clocks.extend(words(state.mask).map(|mask| ClockState { mask, ..*state }));
+    clocks.extend(words(state.raw).map(|raw| ClockState { raw, ..*state }));
+    // A negative offset is a large number, and becomes positive where it can.
+    let offsets = smaller(state.offset as u64).into_iter();
+    clocks.extend(offsets.map(|offset| ClockState {
+        offset: offset as i64,
+        ..*state
+    }));
+    clocks
 }
 
 fn simpler_inputs(bytes: &[u8]) -> Vec<Vec<u8>> {
@@ -306,6 +355,23 @@ mod tests {
             }
         });
         assert_eq!(found, "w 07 01\nstate");
+    }
+
+    #[test]
+    fn states_become_plain() {
+        let found = shrunk(
+            "serial\nrestore 0c 01 0f 06 03 61 08 b0 55 0102030405060708",
+            |run| matches!(run, [.., Operation::RestoreSerial(state)] if state.registers[3] >= 4 && state.buffer.len() > 1),
+        );
+        assert_eq!(found, "restore 00 00 00 04 00 00 00 00 00 0000");
+        let found = shrunk(
+            "clock\nrestore 00000005 fffffffffffffc18 80000000 00000001 00000009",
+            |run| matches!(run, [.., Operation::RestoreClock(state)] if state.offset < -3 && state.raw != 0),
+        );
+        assert_eq!(
+            found,
+            "restore 00000000 8000000000000000 00000000 00000000 00000001"
+        );
     }
 
     #[test]

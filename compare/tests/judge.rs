@@ -18,6 +18,7 @@ fn everything() -> Options {
     Options {
         devices: Device::ALL.to_vec(),
         quiet_enable: false,
+        saves: true,
     }
 }
 
@@ -88,6 +89,7 @@ fn the_exhaustive_lists_find_every_planted_fault_of_their_device() {
         let list = exhaustive::list(&Options {
             devices: vec![device],
             quiet_enable: false,
+            saves: true,
         });
         for (_, faulty_device, fault, _) in FAULTS {
             if faulty_device == Some(device) {

@@ -1,5 +1,6 @@
 //! The clock of the account.
 
+use super::reached;
 use crate::devices::{self, ClockState};
 
 /// The registers that are read back as they are stored.
@@ -141,5 +142,11 @@ impl devices::Clock for Clock {
             mask: self.get(Mask),
             raw: self.get(Raw),
         }
+    }
+
+    fn restore(&mut self, state: &ClockState) -> bool {
+        self.registers = [state.load, state.match_, state.mask, state.raw];
+        self.offset = state.offset;
+        reached::clock(state)
     }
 }

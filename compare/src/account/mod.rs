@@ -4,6 +4,7 @@
 
 pub mod clock;
 pub mod i8042;
+pub mod reached;
 pub mod serial;
 
 use crate::devices::Devices;

@@ -2,7 +2,8 @@
 
 use std::collections::VecDeque;
 
-use crate::devices::{self, Raised, Serial as _, SerialState};
+use super::reached;
+use crate::devices::{self, Raised, Restored, Serial as _, SerialState};
 
 /// Places in the register file, in the order in which `state` answers them.
 #[derive(Clone, Copy)]
@@ -30,18 +31,28 @@ const MCR_LOOPBACK: u8 = 0x10;
 pub(crate) const LSR_DATA_READY: u8 = 0x01;
 
 /// A kind of interrupt: its bit in IER, and its bit in IIR.
-struct Kind {
+pub(crate) struct Kind {
     enabled: u8,
     marked: u8,
 }
-const RECEIVED_DATA: Kind = Kind {
+pub(crate) const RECEIVED_DATA: Kind = Kind {
     enabled: 0x01,
     marked: 0x04,
 };
-const TRANSMITTER_EMPTY: Kind = Kind {
+pub(crate) const TRANSMITTER_EMPTY: Kind = Kind {
     enabled: 0x02,
     marked: 0x02,
 };
+
+impl Kind {
+    pub(crate) fn is_enabled(&self, ier: u8) -> bool {
+        ier & self.enabled != 0
+    }
+
+    pub(crate) fn is_marked(&self, iir: u8) -> bool {
+        iir & self.marked != 0
+    }
+}
 
 /// What an access at an offset does. Offsets that a table lacks are written without effect and read
 /// as 0.
@@ -129,7 +140,7 @@ impl Serial {
 
     /// Marks and raises an interrupt that is enabled and not marked yet.
     fn announce(&mut self, kind: Kind) -> Raised {
-        if self.get(Ier) & kind.enabled == 0 || self.get(Iir) & kind.marked != 0 {
+        if !kind.is_enabled(self.get(Ier)) || kind.is_marked(self.get(Iir)) {
             return 0;
         }
         self.set(Iir, self.get(Iir) & !IIR_NONE | kind.marked);
@@ -250,5 +261,19 @@ impl devices::Serial for Serial {
             registers: self.registers,
             buffer: self.buffer.iter().copied().collect(),
         }
+    }
+
+    fn restore(&mut self, state: &SerialState) -> Option<Restored> {
+        if state.buffer.len() > SIZE {
+            return None;
+        }
+        self.registers = state.registers;
+        self.buffer = state.buffer.iter().copied().collect();
+        let is_raised =
+            |kind: &Kind| kind.is_enabled(self.get(Ier)) && kind.is_marked(self.get(Iir));
+        Some(Restored {
+            raised: u32::from(is_raised(&TRANSMITTER_EMPTY)) + u32::from(is_raised(&RECEIVED_DATA)),
+            reached: reached::serial(state),
+        })
     }
 }

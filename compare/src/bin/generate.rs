@@ -7,13 +7,14 @@ use judge::command_line::{arguments, finish, number, Trouble};
 use judge::format::Device;
 use judge::generate::{exhaustive, format_cases, random, Options};
 
-const USAGE: &str = "usage: generate KIND [--devices NAME,..] [--quiet-enable] > LIST
+const USAGE: &str = "usage: generate KIND [--devices NAME,..] [--quiet-enable] [--no-saves] > LIST
   KIND: exhaustive      every run of up to three operations, every offset
         random N SEED   N lines that get an answer, the same for the same seed
         format          every kind of line, well-formed and not
   --devices             of serial, clock and i8042; all three if it is not given
   --quiet-enable        without the writes of the interrupt enable register that announce
-                        something in vm-superio 0.8.2";
+                        something in vm-superio 0.8.2
+  --no-saves            without saved states";
 
 fn devices(names: &str) -> Result<Vec<Device>, Trouble> {
     names
@@ -31,12 +32,14 @@ fn run() -> Result<ExitCode, Trouble> {
     let mut options = Options {
         devices: Device::ALL.to_vec(),
         quiet_enable: false,
+        saves: true,
     };
     let mut kind = Vec::new();
     let mut arguments = arguments().into_iter();
     while let Some(argument) = arguments.next() {
         match argument.as_str() {
             "--quiet-enable" => options.quiet_enable = true,
+            "--no-saves" => options.saves = false,
             "--devices" => {
                 let names = arguments.next();
                 options.devices = devices(&names.ok_or_else(|| Trouble(USAGE.to_string()))?)?;

@@ -1,7 +1,8 @@
 //! Answers a list by vm-superio itself, versions 0.7.0 to 0.8.2.
 //!
 //! The original hands an interrupt to a trigger, a byte to a sink and an invalid access to an events
-//! object. Here these only take note, and each call answers what was noted during it.
+//! object. Here these only take note, and each call answers what was noted during it. One thing it cannot
+//! answer: whether a state that is brought back could have been reached. That is the account's word.
 
 use std::cell::Cell;
 use std::convert::Infallible;
@@ -9,8 +10,9 @@ use std::io;
 use std::process::ExitCode;
 use std::rc::Rc;
 
+use judge::account::reached;
 use judge::command_line::{arguments, finish, Trouble};
-use judge::devices::{self, ClockState, Devices, Raised, SerialState};
+use judge::devices::{self, ClockState, Devices, Raised, Restored, SerialState};
 use judge::driver::serve;
 use vm_superio::rtc_pl031::RtcEvents;
 use vm_superio::serial::{Error, NoEvents};
@@ -114,6 +116,40 @@ impl devices::Serial for Serial {
             buffer: state.in_buffer,
         }
     }
+
+    fn restore(&mut self, state: &SerialState) -> Option<Restored> {
+        let (raised, sent) = (self.raised.clone(), self.sent.clone());
+        let port = vm_superio::Serial::from_state(&original_of(state), raised, NoEvents, sent);
+        let raised = self.raised.take();
+        match port {
+            Ok(port) => self.port = port,
+            Err(Error::FullFifo) => {
+                assert!(raised == 0, "a refused state raised an interrupt");
+                return None;
+            }
+            Err(error) => panic!("nothing here fails: {error:?}"),
+        }
+        Some(Restored {
+            raised,
+            reached: reached::serial(state),
+        })
+    }
+}
+
+fn original_of(state: &SerialState) -> vm_superio::SerialState {
+    let registers = state.registers;
+    vm_superio::SerialState {
+        baud_divisor_low: registers[0],
+        baud_divisor_high: registers[1],
+        interrupt_enable: registers[2],
+        interrupt_identification: registers[3],
+        line_control: registers[4],
+        line_status: registers[5],
+        modem_control: registers[6],
+        modem_status: registers[7],
+        scratch: registers[8],
+        in_buffer: state.buffer.clone(),
+    }
 }
 
 struct Clock {
@@ -143,6 +179,18 @@ impl devices::Clock for Clock {
             mask: state.imsc,
             raw: state.ris,
         }
+    }
+
+    fn restore(&mut self, state: &ClockState) -> bool {
+        let original = vm_superio::RtcState {
+            lr: state.load,
+            offset: state.offset,
+            mr: state.match_,
+            imsc: state.mask,
+            ris: state.raw,
+        };
+        self.clock = vm_superio::Rtc::from_state(&original, self.invalid.clone());
+        reached::clock(state)
     }
 }
 

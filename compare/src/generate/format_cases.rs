@@ -16,6 +16,15 @@ const WELL_FORMED: &[&[u8]] = &[
     b"now 5",
     b"now 0000000000000000000000000000000018446744073709551615",
     b"r 0000 aabbccdd",
+    b"save",
+    b"restore",
+    b"restore 0c 00 01 04 03 61 08 b0 55 6162",
+    b"restore 0c 00 03 06 03 61 08 b0 55 -",
+    b"save",
+    b"restore 00000005 fffffffffffffc18 80000000 00000001 00000000",
+    b"restore",
+    b"restore 00000005 7fffffffffffffff 80000000 00000003 ffffffff",
+    b"save",
     b"state",
 ];
 
@@ -38,7 +47,7 @@ pub fn list(options: &Options) -> Vec<u8> {
 }
 
 fn cases(list: &mut List) {
-    for line in malformed::LINES {
+    for line in malformed::LINES.iter().chain(malformed::SAVES) {
         list.line(line);
     }
     list.line(b"");
@@ -54,6 +63,12 @@ fn long_lines(list: &mut List) {
     for length in [LONGEST_LINE, LONGEST_LINE + 1, LONGEST_LINE + 2, 100_000] {
         list.line(&padded(b"b ", b'5', length));
         list.line(&padded(b"now ", b'0', length));
+        // The longest state that can be asked for has an odd number of characters.
+        list.line(&padded(
+            b"restore 0c 00 00 01 03 61 08 b0 00 ",
+            b'5',
+            length - 1,
+        ));
         list.line(&padded(b"", b'x', length));
         list.line(&padded(b"r 00", b' ', length));
         list.line(&padded(b"#", b' ', length));
@@ -77,6 +92,7 @@ mod tests {
         let text = list(&Options {
             devices: Device::ALL.to_vec(),
             quiet_enable: true,
+            saves: true,
         });
         assert!(text.ends_with(b"\nstate"));
     }

@@ -36,3 +36,39 @@ pub const LINES: &[&[u8]] = &[
     b"now 18446744073709551620", b"now 18446744073709552000", b"now 99999999999999999999",
     b"now 36893488147419103232", b"now 184467440737095516160", b"now 100000000000000000000000000000000000",
 ];
+
+/// Such lines about saved states. They have a list of their own: from the lines above random lists without
+/// saved states draw, and a seed is to make the same one always.
+#[rustfmt::skip]
+pub const SAVES: &[&[u8]] = &[
+    // Words.
+    b"save ", b" save", b"Save", b"SAVE", b"saves", b"sav", b"save 1", b"save -", b"save\r", b"save\0", b"save save",
+    b"restore ", b" restore", b"Restore", b"RESTORE", b"restor", b"restores", b"restore\r", b"restore  ", b"restored",
+    b"restore -", b"restore 00", b"restore 0", b"restore full", b"restore reached", b"restore restore", b"restore-",
+    // Ports: a register or the bytes missing, one too many, and slips in each.
+    b"restore 0c 00 00 01 03 60 08 b0 -", b"restore 0c 00 00 01 03 60 08 b0 00", b"restore 0c 00 00 01 03 60 08 b0 00 ",
+    b"restore 0c 00 00 01 03 60 08 b0 00 00 -", b"restore 0c 00 00 01 03 60 08 b0 00 0 -",
+    b"restore 0c 00 00 01 03 61 08 b0 00 2 6162", b"restore 0c 00 00 01 03 61 08 b0 00 61 62",
+    b"restore 0c 00 00 01 03 61 08 b0 00 6", b"restore 0c 00 00 01 03 61 08 b0 00 616", b"restore 0c 00 00 01 03 61 08 b0 00 6A",
+    b"restore 0c 00 00 01 03 61 08 b0 00 6g", b"restore 0c 00 00 01 03 61 08 b0 00 61-", b"restore 0c 00 00 01 03 61 08 b0 00 -61",
+    b"restore 0c 00 00 01 03 60 08 b0 00 --", b"restore 0c 00 00 01 03 60 08 b0 00 - ", b"restore 0c 00 00 01 03 60 08 b0 00 -\r",
+    b"restore 0c 00 00 01 03 60 08 b0 00  -", b"restore  0c 00 00 01 03 60 08 b0 00 -", b"restore 0c 00 00 01 03 60 08 b0  00 -",
+    b"restore 0C 00 00 01 03 60 08 b0 00 -", b"restore 0c 00 00 01 03 60 08 b0 0g -", b"restore 0c 0 00 01 03 60 08 b0 00 -",
+    b"restore 0c 000 0 01 03 60 08 b0 00 -", b"restore 0c 00 00 1 003 60 08 b0 00 -", b"restore 0c 00 00 01 03 60 08 b 000 -",
+    b"restore 0c 00 00 01 03 60 08 - 00 -", b"restore 0c000001036008b000 -", b"restore 0c 00 00 01 03 60 08 b0 00-",
+    b"Restore 0c 00 00 01 03 60 08 b0 00 -", b"save 0c 00 00 01 03 60 08 b0 00 0 -", b"state 0c 00 00 01 03 60 08 b0 00 0 -",
+    b" restore 0c 00 00 01 03 60 08 b0 00 -", b"restore 0c 00 00 01 03 60 08 b0 00 - -", b"restore\t0c 00 00 01 03 60 08 b0 00 -",
+    // Clocks.
+    b"restore 00000005 fffffffffffffc18 80000000 00000001", b"restore 00000005 fffffffffffffc18 80000000 00000001 ",
+    b"restore 00000005 fffffffffffffc18 80000000 00000001 00000000 ", b"restore 00000005 fffffffffffffc18 80000000 00000001 00000000 00000000",
+    b"restore 0000005 fffffffffffffc18 80000000 00000001 00000000", b"restore 000000005 fffffffffffffc18 80000000 00000001 00000000",
+    b"restore 00000005 ffffffffffffc18 80000000 00000001 00000000", b"restore 00000005 ffffffffffffffc18 80000000 00000001 00000000",
+    b"restore 00000005 fffffc18 80000000 00000001 00000000", b"restore 00000005 -000000000000001 80000000 00000001 00000000",
+    b"restore 00000005 FFFFFFFFFFFFFC18 80000000 00000001 00000000", b"restore 00000005 fffffffffffffc1g 80000000 00000001 00000000",
+    b"restore 0000000A fffffffffffffc18 80000000 00000001 00000000", b"restore 00000005 fffffffffffffc18 8000000 00000001 00000000",
+    b"restore 00000005 fffffffffffffc18 80000000 1 00000000", b"restore 00000005 fffffffffffffc18 80000000 00000001 0000000",
+    b"restore 00000005 fffffffffffffc18 80000000 00000001 0000000000", b"restore 00000005 fffffffffffffc18 80000000 00000001 00000000\r",
+    b"restore 00000005 ffffffff fffffc18 80000000 00000001 00000000", b"restore 00000005  fffffffffffffc18 80000000 00000001 00000000",
+    b"restore 00000005fffffffffffffc18800000000000000100000000", b"restore 00000005 fffffffffffffc18 80000000 00000001 -",
+    b"restore 0x000005 fffffffffffffc18 80000000 00000001 00000000", b"save 00000005 fffffffffffffc18 80000000 00000001 00000000",
+];

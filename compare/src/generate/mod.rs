@@ -5,6 +5,7 @@ pub mod format_cases;
 pub mod malformed;
 pub mod numbers;
 pub mod random;
+pub mod states;
 
 use crate::domain::Place;
 use crate::format::{self, Device, Operation};
@@ -15,6 +16,8 @@ pub struct Options {
     pub devices: Vec<Device>,
     /// Leave out the writes of the interrupt enable register that might announce (see `domain`).
     pub quiet_enable: bool,
+    /// Save and restore states. A list without is the one that the same seed made before there were any.
+    pub saves: bool,
 }
 
 /// A list that is being written, and where it has got to.
@@ -53,10 +56,11 @@ impl List {
     }
 
     fn is_left_out(&self, line: &[u8]) -> bool {
-        if let Some(Operation::Start(device)) = format::parse(line) {
-            return !self.has(device);
+        match format::parse(line) {
+            Some(Operation::Start(device)) => !self.has(device),
+            Some(operation) if operation.is_about_saved_states() => !self.options.saves,
+            _ => self.options.quiet_enable && self.place.announces(line),
         }
-        self.options.quiet_enable && self.place.announces(line)
     }
 
     pub fn has(&self, device: Device) -> bool {
@@ -86,8 +90,15 @@ mod tests {
         let mut list = List::new(&Options {
             devices: vec![Device::Serial],
             quiet_enable: true,
+            saves: false,
         });
-        for line in ["serial", "clock", "w 01 02", "# no answer", "w 01 01"] {
+        let clock = "restore 00000000 0000000000000000 00000000 00000000 00000000";
+        let port = "restore 00 00 00 00 00 00 00 00 00 -";
+        let left_out = ["clock", "w 01 02", "save", "restore", port, clock];
+        for line in ["serial"].iter().chain(&left_out) {
+            list.line(line.as_bytes());
+        }
+        for line in ["# no answer", "w 01 01"] {
             list.line(line.as_bytes());
         }
         assert_eq!(list.asking(), 2);

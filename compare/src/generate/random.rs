@@ -1,9 +1,11 @@
 //! Long random lists. They steer to the limits: a buffer that is empty, one short of full and full, the
 //! divisor and the loop open and closed, offsets beyond the registers, times at the ends of 32 and 64
-//! bits and going backwards, and lines that are no operation.
+//! bits and going backwards, states that are saved and brought back, and lines that are no operation.
 
 use super::numbers::Numbers;
-use super::{malformed, List, Options};
+use super::{malformed, states, List, Options};
+use crate::account::Account;
+use crate::devices::{Clock, Devices, Serial};
 use crate::format::{Device, Operation};
 
 /// A list with `count` lines that get an answer.
@@ -12,10 +14,11 @@ pub fn list(options: &Options, count: usize, seed: u64) -> Vec<u8> {
         list: List::new(options),
         numbers: Numbers::new(seed),
         count,
+        saves: options.saves,
         now: 0,
     };
     // Nobody is there yet to answer these.
-    for line in ["r 00", "state", "now 1"] {
+    for line in ["r 00", "state", "now 1", "save", "restore"] {
         writer.line(line.as_bytes());
     }
     while writer.goes_on() {
@@ -28,6 +31,7 @@ struct Writer {
     list: List,
     numbers: Numbers,
     count: usize,
+    saves: bool,
     now: u64,
 }
 
@@ -63,6 +67,9 @@ impl Writer {
             if self.numbers.once_in(50) {
                 self.disturb();
             }
+            if self.saves && self.numbers.once_in(5) {
+                self.save_or_restore(device);
+            }
             match device {
                 Device::Serial => self.serial(),
                 Device::Clock => self.clock(),
@@ -70,6 +77,44 @@ impl Writer {
             }
         }
         self.operation(Operation::State);
+    }
+
+    // ---- Saved states
+
+    fn save_or_restore(&mut self, device: Device) {
+        match self.numbers.below(8) {
+            0..=1 => self.operation(Operation::Save),
+            2 => self.operation(Operation::Restore),
+            3 => self.move_to_another(device),
+            4 => {
+                let line = self.numbers.pick(malformed::SAVES);
+                self.line(line);
+            }
+            _ => self.restore_made_up(),
+        }
+    }
+
+    /// Saves the device and brings it back into a fresh one.
+    fn move_to_another(&mut self, device: Device) {
+        self.operation(Operation::Save);
+        self.operation(Operation::Start(device));
+        self.now = 0;
+        self.operation(Operation::Restore);
+    }
+
+    /// A state of the current device and sometimes, to be refused, of another. (A slip may have made
+    /// another one current than was last asked for.)
+    fn restore_made_up(&mut self) {
+        let (port, clock) = (self.list.place().port(), self.list.place().clock());
+        let fits = !self.numbers.once_in(12);
+        let operation = if port.is_some() == fits {
+            let near = port.unwrap_or_else(|| Account::default().serial().state());
+            Operation::RestoreSerial(states::port(&mut self.numbers, near))
+        } else {
+            let near = clock.unwrap_or_else(|| Account::default().clock().state());
+            Operation::RestoreClock(states::clock(&mut self.numbers, near))
+        };
+        self.operation(operation);
     }
 
     // ---- Lines that are no operation of the device
@@ -317,10 +362,11 @@ impl Writer {
 
 #[cfg(test)]
 mod tests {
+    use std::collections::HashMap;
+
     use super::*;
-    use crate::account::Account;
     use crate::answer::Answer;
-    use crate::devices::{Serial, SerialState};
+    use crate::devices::SerialState;
     use crate::domain::Place;
     use crate::driver::{Current, Driver};
     use crate::format::{self, asking_lines};
@@ -330,6 +376,7 @@ mod tests {
         let options = Options {
             devices,
             quiet_enable,
+            saves: true,
         };
         list(&options, 50_000, seed)
     }
@@ -426,6 +473,77 @@ mod tests {
         }
         assert!(times.windows(2).any(|pair| pair[1] < pair[0]));
         assert!(fell_back >= 100, "{fell_back}");
+    }
+
+    /// How often each answer is given where a state is brought back: one that was kept, into a fresh
+    /// device and into another, and a made-up one.
+    fn answers_to_restore(text: &[u8]) -> HashMap<(&'static str, String), usize> {
+        let mut driver = Driver::new(Account::default());
+        let mut seen = HashMap::new();
+        let mut starts = false;
+        for line in asking_lines(text) {
+            let what = match format::parse(line) {
+                Some(Operation::Restore) if starts => "kept, into a fresh one",
+                Some(Operation::Restore) => "kept",
+                Some(Operation::RestoreSerial(_) | Operation::RestoreClock(_)) => "made up",
+                _ => "",
+            };
+            starts = format::is_start(line);
+            let mut answer = Vec::new();
+            driver.answer(line).print(&mut answer);
+            let answer = String::from_utf8(answer).unwrap();
+            *seen.entry((what, answer)).or_insert(0) += 1;
+        }
+        seen
+    }
+
+    #[test]
+    fn states_of_every_kind_are_brought_back() {
+        let ports = [
+            "0 reached",
+            "1 reached",
+            "2 reached",
+            "0 unreached",
+            "1 unreached",
+        ];
+        for (device, kept, refused) in [
+            (Device::Serial, &ports[..], &["2 unreached", "full"][..]),
+            (Device::Clock, &["reached", "unreached"], &[]),
+        ] {
+            let seen = answers_to_restore(&sample(&[device], false, 1));
+            let often = |what, answers: &[&str], least| {
+                for answer in answers {
+                    let key = (what, format!("restore {answer}\n"));
+                    let times = seen.get(&key).copied().unwrap_or(0);
+                    assert!(times >= least, "{what}, {answer}: {times} times");
+                }
+            };
+            often("kept", kept, 5);
+            often("kept, into a fresh one", kept, 5);
+            often("made up", kept, 20);
+            often("made up", refused, 20);
+        }
+        let seen = answers_to_restore(&sample(&[Device::I8042], false, 1));
+        for what in ["kept", "made up"] {
+            assert!(seen[&(what, "?\n".to_string())] >= 100, "{what}");
+        }
+    }
+
+    #[test]
+    fn a_list_without_saved_states_has_none() {
+        let options = Options {
+            devices: Device::ALL.to_vec(),
+            quiet_enable: false,
+            saves: false,
+        };
+        let text = list(&options, 20_000, 1);
+        let about_states = |line: &[u8]| line.starts_with(b"save") || line.starts_with(b"restore");
+        assert_eq!(
+            asking_lines(&text)
+                .filter(|line| about_states(line))
+                .count(),
+            0
+        );
     }
 
     #[test]
