@@ -54,6 +54,13 @@ struct serialpost_serial {
 /* The three parts of a port, as the calls take them: serialpost_serial_read(SERIALPOST_PARTS(&port), offset). */
 #define SERIALPOST_PARTS(port) (port)->regs, (port)->pos, (port)->ring
 
+/* A port written down, to be kept or sent elsewhere: its registers, how many bytes wait, and these in their order. */
+struct serialpost_serial_saved {
+    uint32_t count;
+    uint8_t regs[9];
+    uint8_t waiting[SERIALPOST_SERIAL_CAPACITY];
+};
+
 /* Makes a fresh port of any memory. The ring may hold anything. Refuses nothing. */
 void serialpost_serial_init(uint8_t regs[9], uint32_t pos[2]);
 
@@ -84,6 +91,18 @@ uint32_t serialpost_serial_room(const uint32_t pos[2]);
 bool serialpost_serial_play(uint8_t regs[9], uint32_t pos[2], uint8_t ring[64], const uint8_t *ops, size_t ops_length,
                             const uint8_t *inputs, size_t inputs_length, uint32_t *answers, size_t answers_length);
 
+/* Writes a port down: its registers into `saved`, and the bytes that wait, in their order, into the first of
+ * `waiting`, whose others stay. Answers how many wait, 0 to 64. Refuses nothing, and the port stays. */
+uint32_t serialpost_serial_save(const uint8_t regs[9], const uint32_t pos[2], const uint8_t ring[64], uint8_t saved[9],
+                                uint8_t waiting[64]);
+
+/* Brings a port back into any memory. Answers how often to raise the interrupt, once for each kind that is enabled
+ * and marked, since the line of a new host may never have seen it; and whether a run from a fresh port could have
+ * come to this state. One that no run comes to is brought back all the same: whether to go on is yours to say.
+ * Refused: more than 64 bytes. */
+uint32_t serialpost_serial_restore(uint8_t regs[9], uint32_t pos[2], uint8_t ring[64], const uint8_t saved[9],
+                                   const uint8_t *waiting, size_t length);
+
 /* The answer to a read or a write, taken apart. */
 #define SERIALPOST_REPLY(answer) ((uint8_t)((answer) & 0xff))
 #define SERIALPOST_SENDS(answer) (((answer) & 0x100) != 0)
@@ -94,6 +113,11 @@ bool serialpost_serial_play(uint8_t regs[9], uint32_t pos[2], uint8_t ring[64], 
 #define SERIALPOST_TAKEN(answer) ((size_t)((answer) & 0xffff))
 #define SERIALPOST_FULL(answer) (((answer) & 0x10000) != 0)
 #define SERIALPOST_INPUT_RAISES(answer) ((uint32_t)(answer) >> 17)
+
+/* The answer to bringing a port back, taken apart. */
+#define SERIALPOST_REFUSED(answer) (((answer) & 0x10000) != 0)
+#define SERIALPOST_RESTORE_RAISES(answer) ((uint32_t)(answer) >> 17)
+#define SERIALPOST_REACHED(answer) (((answer) & 1) != 0)
 
 /* ---- Clock: a PL031. Registers are four bytes, the lowest first. */
 
@@ -129,6 +153,13 @@ bool serialpost_clock_read(const struct serialpost_clock *clock, uint16_t offset
 /* The guest writes `bytes` to the register at `offset` while your clock says `time` seconds. Answers true. An
  * offset with no register to write is refused: false, and the clock stays. */
 bool serialpost_clock_write(struct serialpost_clock *clock, uint16_t offset, uint64_t time, const uint8_t bytes[4]);
+
+/* Writes a clock down into `saved`. Refuses nothing, and the clock stays. */
+void serialpost_clock_save(const struct serialpost_clock *clock, struct serialpost_clock *saved);
+
+/* Brings a clock back into any memory. Answers whether a run from a fresh clock could have come to this state. One
+ * that no run comes to is brought back all the same. Refuses nothing. */
+bool serialpost_clock_restore(struct serialpost_clock *clock, const struct serialpost_clock *saved);
 
 /* ---- Reset controller: of an i8042, the command that resets the machine. It has no state. */
 

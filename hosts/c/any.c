@@ -128,22 +128,80 @@ static void any_input(struct port port, struct fenced input)
     EXPECT(SERIALPOST_TAKEN(answer) > 0 || is(port, &before));
 }
 
+/* Writes a port down, into `kept` for its registers and ring. */
+static void any_save(struct port port, struct port kept)
+{
+    struct serialpost_serial before = copy(port);
+    uint8_t waiting[64];
+    any_bytes(kept.regs, 9);
+    any_bytes(kept.ring, 64);
+    memcpy(waiting, kept.ring, 64);
+    uint32_t count = serialpost_serial_save(port.regs, port.pos, port.ring, kept.regs, kept.ring);
+    EXPECT(count == 64 - serialpost_serial_room(port.pos));
+    for (uint32_t i = 0; i < count; i++)
+        waiting[i] = port.ring[(port.pos[0] + i) % 64];
+    EXPECT(is(port, &before) && memcmp(kept.regs, port.regs, 9) == 0 && memcmp(kept.ring, waiting, 64) == 0);
+}
+
+/* Registers to be brought back: any, or half of the time such as a run may leave where `length` bytes wait. */
+static void any_saved(uint8_t regs[9], size_t length)
+{
+    any_bytes(regs, 9);
+    if (once_in(2))
+        return;
+    regs[SERIALPOST_IER] &= 0x0f;
+    regs[SERIALPOST_IIR] = once_in(2) ? 0x01 : (uint8_t)(any() % 4 * 2);
+    regs[SERIALPOST_LSR] = length == 0 ? 0x60 : 0x61;
+    regs[SERIALPOST_MSR] = 0xb0;
+}
+
+/* Brings a port back. Answers whether a run could have come to it. */
+static bool any_restore(struct port port, struct port kept, struct fenced input)
+{
+    struct serialpost_serial before = copy(port), again;
+    size_t length = any() % 70;
+    uint8_t *waiting = lent(input, length), *regs = kept.regs;
+    any_bytes(waiting, length);
+    any_saved(regs, length);
+    uint32_t answer = serialpost_serial_restore(port.regs, port.pos, port.ring, regs, waiting, length);
+    if (length > 64) {
+        EXPECT(answer == 0x10000 && is(port, &before));
+        return false;
+    }
+    uint8_t enabled = regs[SERIALPOST_IER], marked = regs[SERIALPOST_IIR];
+    uint32_t raises = ((enabled & 2) && (marked & 2)) + ((enabled & 1) && (marked & 4));
+    bool reached = SERIALPOST_REACHED(answer);
+    bool marks = marked == 1 || marked == 2 || (length > 0 && (marked == 4 || marked == 6));
+    EXPECT(answer == raises * 0x20000 + reached);
+    EXPECT(!reached || (enabled < 16 && marks && regs[SERIALPOST_LSR] == 0x60 + (length > 0) && regs[SERIALPOST_MSR] == 0xb0));
+    EXPECT(serialpost_serial_save(port.regs, port.pos, port.ring, again.regs, again.ring) == length);
+    EXPECT(memcmp(again.regs, regs, 9) == 0 && memcmp(again.ring, waiting, length) == 0);
+    return reached;
+}
+
 static void any_access(bool at_end)
 {
-    struct port port = fenced_port(at_end);
+    struct port port = fenced_port(at_end), kept = fenced_port(at_end);
     struct fenced input = fence(at_end);
+    int reached = 0;
     for (int round = 0; round < ROUNDS; round++) {
         any_state(port);
         EXPECT(serialpost_serial_room(port.pos) == (port.pos[1] < 64 ? 64 - port.pos[1] : 0));
-        switch (any() % 3) {
+        switch (any() % 5) {
         case 0:
             any_read(port);
             break;
         case 1:
             any_write(port);
             break;
-        default:
+        case 2:
             any_input(port, input);
+            break;
+        case 3:
+            any_save(port, kept);
+            break;
+        default:
+            reached += any_restore(port, kept, input);
             break;
         }
         if (once_in(100)) {
@@ -151,6 +209,7 @@ static void any_access(bool at_end)
             EXPECT(serialpost_serial_room(port.pos) == 64);
         }
     }
+    EXPECT(reached > ROUNDS / 50 && reached < ROUNDS / 10);
 }
 
 /* ---- Runs */
@@ -252,12 +311,32 @@ static void any_clock(bool at_end)
     }
 }
 
+static void any_saved_clock(bool at_end)
+{
+    struct serialpost_clock *clock = lent(fence(at_end), sizeof *clock), *saved = lent(fence(at_end), sizeof *saved), before;
+    int reached = 0;
+    for (int round = 0; round < ROUNDS; round++) {
+        any_bytes(clock, sizeof *clock);
+        any_bytes(saved, sizeof *saved);
+        if (once_in(2))
+            *saved = (struct serialpost_clock){ any() % 8, any(), any() % 3, any() % 2, any() % 8, 0 - any() % 2 };
+        before = *saved;
+        reached += serialpost_clock_restore(clock, saved);
+        EXPECT(memcmp(clock, &before, sizeof before) == 0 && memcmp(saved, &before, sizeof before) == 0);
+        any_bytes(saved, sizeof *saved);
+        serialpost_clock_save(clock, saved);
+        EXPECT(memcmp(clock, &before, sizeof before) == 0 && memcmp(saved, &before, sizeof before) == 0);
+    }
+    EXPECT(reached > ROUNDS / 50 && reached < ROUNDS / 4);
+}
+
 int main(void)
 {
     for (int at_end = 0; at_end < 2; at_end++) {
         any_access(at_end);
         any_play(at_end);
         any_clock(at_end);
+        any_saved_clock(at_end);
     }
     return 0;
 }

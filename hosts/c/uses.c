@@ -114,6 +114,84 @@ static void a_run_is_the_calls_one_after_another(void)
     EXPECT(memcmp(&port, &same, sizeof port) == 0);
 }
 
+/* ---- A port written down and brought back */
+
+static struct serialpost_serial_saved saved_from(const struct serialpost_serial *port)
+{
+    struct serialpost_serial_saved saved;
+    memset(&saved, 0xa5, sizeof saved);
+    saved.count = serialpost_serial_save(SERIALPOST_PARTS(port), saved.regs, saved.waiting);
+    return saved;
+}
+
+static uint32_t restore(struct serialpost_serial *port, const struct serialpost_serial_saved *saved)
+{
+    return serialpost_serial_restore(SERIALPOST_PARTS(port), saved->regs, saved->waiting, saved->count);
+}
+
+/* A machine moves to another host while someone types: nothing is lost, and the new host's line hears of it. */
+static void a_console_moves_to_another_host(void)
+{
+    struct serialpost_serial here = fresh_port(), there;
+    write_at(&here, SERIALPOST_IER, 0x01);
+    type_in(&here, "xls -l", 6);
+    EXPECT(read_at(&here, SERIALPOST_RBR) == 'x');
+    type_in(&here, "\n", 1);
+
+    struct serialpost_serial_saved saved = saved_from(&here);
+    EXPECT(saved.count == 6 && memcmp(saved.waiting, "ls -l\n", 6) == 0 && saved.waiting[6] == 0xa5);
+    static const uint8_t regs[] = { 0x0c, 0x01, 0x04, 0x03, 0x08, 0x61, 0xb0, 0x00, 0x00 };
+    EXPECT(memcmp(saved.regs, regs, sizeof regs) == 0);
+
+    memset(&there, 0x5a, sizeof there);
+    uint32_t answer = restore(&there, &saved);
+    EXPECT(!SERIALPOST_REFUSED(answer) && SERIALPOST_RESTORE_RAISES(answer) == 1 && SERIALPOST_REACHED(answer));
+    EXPECT(serialpost_serial_room(there.pos) == SERIALPOST_SERIAL_CAPACITY - 6);
+    EXPECT(read_at(&there, SERIALPOST_IIR) == 0xc4);
+    for (const char *byte = "ls -l\n"; *byte; byte++)
+        EXPECT(read_at(&there, SERIALPOST_RBR) == *byte);
+    EXPECT(read_at(&there, SERIALPOST_LSR) == 0x60);
+}
+
+static void what_is_enabled_and_marked_is_raised_again(void)
+{
+    struct serialpost_serial port = fresh_port();
+    struct serialpost_serial_saved saved = saved_from(&port);
+    for (uint8_t ier = 0; ier < 4; ier++)
+        for (uint8_t iir = 0; iir < 8; iir++) {
+            saved.regs[SERIALPOST_IER] = ier;
+            saved.regs[SERIALPOST_IIR] = iir;
+            uint32_t transmitter = (ier & 0x02) && (iir & 0x02), received = (ier & 0x01) && (iir & 0x04);
+            EXPECT(SERIALPOST_RESTORE_RAISES(restore(&port, &saved)) == transmitter + received);
+        }
+}
+
+static void a_state_that_no_run_comes_to_is_brought_back_and_told(void)
+{
+    struct serialpost_serial port = fresh_port();
+    struct serialpost_serial_saved saved = saved_from(&port);
+    EXPECT(restore(&port, &saved) == 1);
+    saved.regs[SERIALPOST_MSR] = 0xff;
+    EXPECT(restore(&port, &saved) == 0 && read_at(&port, SERIALPOST_MSR) == 0xff);
+    saved.regs[SERIALPOST_MSR] = 0xb0;
+    saved.count = 64;
+    EXPECT(restore(&port, &saved) == 0 && read_at(&port, SERIALPOST_LSR) == 0x60);
+    EXPECT(serialpost_serial_room(port.pos) == 0 && read_at(&port, SERIALPOST_RBR) == 0xa5);
+}
+
+static void a_65th_byte_is_refused_and_nothing_changes(void)
+{
+    struct serialpost_serial port = fresh_port(), before;
+    type_in(&port, "abc", 3);
+    before = port;
+    uint8_t regs[9] = { 0 }, many[65] = { 0 };
+    uint32_t answer = serialpost_serial_restore(SERIALPOST_PARTS(&port), regs, many, sizeof many);
+    EXPECT(answer == 0x10000 && SERIALPOST_REFUSED(answer));
+    EXPECT(SERIALPOST_RESTORE_RAISES(answer) == 0 && !SERIALPOST_REACHED(answer));
+    EXPECT(memcmp(&port, &before, sizeof port) == 0);
+    EXPECT(!SERIALPOST_REFUSED(serialpost_serial_restore(SERIALPOST_PARTS(&port), regs, many, 64)));
+}
+
 /* ---- The clock and the reset controller */
 
 static uint32_t clock_at(const struct serialpost_clock *clock, uint16_t offset, uint64_t time)
@@ -172,6 +250,41 @@ static void a_clock_refuses(void)
     EXPECT(clock_at(&clock, 0xfe0, 0) == 0x31 && clock_at(&clock, 0xfff, 0) == 0xb1);
 }
 
+static void a_clock_moves_to_another_host(void)
+{
+    struct serialpost_clock here, saved, there;
+    memset(&saved, 0xa5, sizeof saved);
+    memset(&there, 0x5a, sizeof there);
+    serialpost_clock_init(&here);
+    set_clock(&here, SERIALPOST_RTCLR, 1000, 5);
+    set_clock(&here, SERIALPOST_RTCMR, 1000, 77);
+    serialpost_clock_save(&here, &saved);
+    EXPECT(saved.load == 5 && saved.match == 77 && saved.offset_low == (uint32_t)-995 && saved.offset_high == UINT32_MAX);
+    EXPECT(serialpost_clock_restore(&there, &saved));
+    EXPECT(clock_at(&there, SERIALPOST_RTCDR, 1010) == 15 && clock_at(&there, SERIALPOST_RTCMR, 1010) == 77);
+}
+
+static void a_clock_that_no_run_comes_to_is_brought_back_and_told(void)
+{
+    static const struct {
+        struct serialpost_clock saved;
+        bool reached;
+    } clocks[] = {
+        { { 5, 9, 1, 0, 5, 0 }, true },           /* loaded with 5 at the second 0 */
+        { { 5, 9, 1, 0, 6, 0 }, false },          /* .. at the second -1 */
+        { { 5, 0, 0, 0, 6, UINT32_MAX }, true },  /* .. at the second 2^32 - 1 */
+        { { 5, 0, 0, 0, 5, UINT32_MAX }, false }, /* .. at the second 2^32 */
+        { { 0, 0, 0, 0, 0, 0x80000000 }, false },
+        { { 0, 0, 2, 0, 0, 0 }, false }, /* a mask of two bits */
+        { { 0, 0, 0, 1, 0, 0 }, false }, /* an interrupt, which nothing sets */
+    };
+    for (size_t i = 0; i < sizeof clocks / sizeof *clocks; i++) {
+        struct serialpost_clock clock;
+        EXPECT(serialpost_clock_restore(&clock, &clocks[i].saved) == clocks[i].reached);
+        EXPECT(memcmp(&clock, &clocks[i].saved, sizeof clock) == 0);
+    }
+}
+
 static void one_write_resets(void)
 {
     for (unsigned offset = 0; offset < 256; offset++)
@@ -189,9 +302,15 @@ int main(void)
     a_full_port_refuses();
     the_loop_returns_what_is_written();
     a_run_is_the_calls_one_after_another();
+    a_console_moves_to_another_host();
+    what_is_enabled_and_marked_is_raised_again();
+    a_state_that_no_run_comes_to_is_brought_back_and_told();
+    a_65th_byte_is_refused_and_nothing_changes();
     a_clock_runs();
     a_clock_names_its_words();
     a_clock_refuses();
+    a_clock_moves_to_another_host();
+    a_clock_that_no_run_comes_to_is_brought_back_and_told();
     one_write_resets();
     return 0;
 }
