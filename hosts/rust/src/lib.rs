@@ -39,8 +39,8 @@ pub mod serial;
 mod proved;
 
 pub use i8042::I8042Device;
-pub use rtc_pl031::Rtc;
-pub use serial::Serial;
+pub use rtc_pl031::{Rtc, RtcState};
+pub use serial::{Serial, SerialState};
 
 /// How a device calls for attention: an interrupt line, or the event that resets the machine.
 pub trait Trigger {

@@ -27,6 +27,21 @@ unsafe extern "C" {
         length: usize,
     ) -> u32;
     safe fn serialpost_serial_room(pos: &[u32; 2]) -> u32;
+    safe fn serialpost_serial_save(
+        regs: &[u8; 9],
+        pos: &[u32; 2],
+        ring: &[u8; 64],
+        saved: &mut [u8; 9],
+        waiting: &mut [u8; 64],
+    ) -> u32;
+    fn serialpost_serial_restore(
+        regs: &mut [u8; 9],
+        pos: &mut [u32; 2],
+        ring: &mut [u8; 64],
+        saved: &[u8; 9],
+        waiting: *const u8,
+        length: usize,
+    ) -> u32;
 
     safe fn serialpost_clock_init(clock: &mut [u32; 6]);
     safe fn serialpost_clock_read(
@@ -41,6 +56,8 @@ unsafe extern "C" {
         time: u64,
         bytes: &[u8; 4],
     ) -> bool;
+    safe fn serialpost_clock_save(clock: &[u32; 6], saved: &mut [u32; 6]);
+    safe fn serialpost_clock_restore(clock: &mut [u32; 6], saved: &[u32; 6]) -> bool;
 
     pub(crate) safe fn serialpost_i8042_read(offset: u8) -> u8;
     pub(crate) safe fn serialpost_i8042_write(offset: u8, value: u8) -> bool;
@@ -55,14 +72,42 @@ pub(crate) struct Port {
 }
 
 impl Port {
+    /// Memory that is to become a port.
+    const BLANK: Self = Port {
+        pos: [0; 2],
+        regs: [0; 9],
+        ring: [0; 64],
+    };
+
     pub(crate) fn fresh() -> Self {
-        let mut port = Port {
-            pos: [0; 2],
-            regs: [0; 9],
-            ring: [0; 64],
-        };
+        let mut port = Self::BLANK;
         serialpost_serial_init(&mut port.regs, &mut port.pos);
         port
+    }
+
+    /// A port that was written down, and what bringing it back answers. Where that is a refusal there is no such port.
+    pub(crate) fn restored(regs: &[u8; 9], waiting: &[u8]) -> (Self, Restore) {
+        let mut port = Self::BLANK;
+        // SAFETY: the pointer and the length are those of one slice, which is borrowed for the call.
+        let answer = unsafe {
+            serialpost_serial_restore(
+                &mut port.regs,
+                &mut port.pos,
+                &mut port.ring,
+                regs,
+                waiting.as_ptr(),
+                waiting.len(),
+            )
+        };
+        (port, Restore(answer))
+    }
+
+    /// The port to be written down: its registers, and the bytes that wait.
+    pub(crate) fn saved(&self) -> ([u8; 9], Vec<u8>) {
+        let (mut regs, mut waiting) = ([0; 9], [0; 64]);
+        let count =
+            serialpost_serial_save(&self.regs, &self.pos, &self.ring, &mut regs, &mut waiting);
+        (regs, waiting[..count as usize].to_vec())
     }
 
     #[inline]
@@ -149,15 +194,48 @@ impl Input {
     }
 }
 
+/// The answer to bringing a port back.
+#[derive(Clone, Copy)]
+pub(crate) struct Restore(u32);
+
+impl Restore {
+    pub(crate) fn refused(self) -> bool {
+        self.0 & 0x1_0000 != 0
+    }
+
+    pub(crate) fn raises(self) -> u32 {
+        self.0 >> 17
+    }
+
+    /// Whether a run from a fresh port could have come to it.
+    pub(crate) fn reached(self) -> bool {
+        self.0 & 1 != 0
+    }
+}
+
 /// The memory of a clock: load, match, mask, raw status, and the offset's low and high half.
 #[derive(Debug)]
-pub(crate) struct Clock(pub(crate) [u32; 6]);
+pub(crate) struct Clock([u32; 6]);
 
 impl Clock {
     pub(crate) fn fresh() -> Self {
         let mut clock = Clock([0; 6]);
         serialpost_clock_init(&mut clock.0);
         clock
+    }
+
+    /// A clock that was written down, and whether a run from a fresh one could have come to it.
+    pub(crate) fn restored(saved: &[u32; 6]) -> (Self, bool) {
+        let mut clock = Clock([0; 6]);
+        let reached = serialpost_clock_restore(&mut clock.0, saved);
+        (clock, reached)
+    }
+
+    /// The clock to be written down.
+    pub(crate) fn saved(&self) -> [u32; 6] {
+        let mut saved = [0; 6];
+        serialpost_clock_save(&self.0, &mut saved);
+        saved
     }
 
     #[inline]

@@ -18,6 +18,63 @@ pub struct NoEvents;
 impl private::Sealed for NoEvents {}
 impl RtcEvents for NoEvents {}
 
+/// A clock written down. Every one can be brought back by [`Rtc::from_state`].
+///
+/// The default is the state of a fresh clock.
+#[derive(Clone, Copy, Debug, Eq, PartialEq)]
+pub struct RtcState {
+    /// The load register.
+    pub lr: u32,
+    /// How many seconds the clock is ahead of the host.
+    pub offset: i64,
+    /// The match register.
+    pub mr: u32,
+    /// The interrupt mask.
+    pub imsc: u32,
+    /// The raw interrupt status.
+    pub ris: u32,
+}
+
+impl RtcState {
+    /// Whether a guest could have brought a fresh clock to this state, whatever the host's time was. Anything else
+    /// was changed on its way, or written down by another program: [`Rtc::from_state`] takes it all the same.
+    ///
+    /// vm-superio does not have this.
+    pub fn is_reachable(&self) -> bool {
+        Clock::restored(&self.words()).1
+    }
+
+    fn new([lr, mr, imsc, ris, offset_low, offset_high]: [u32; 6]) -> Self {
+        let offset = u64::from(offset_high) << 32 | u64::from(offset_low);
+        RtcState {
+            lr,
+            offset: offset as i64,
+            mr,
+            imsc,
+            ris,
+        }
+    }
+
+    /// The words as they lie in a clock's memory.
+    fn words(&self) -> [u32; 6] {
+        let (offset_low, offset_high) = (self.offset as u32, (self.offset >> 32) as u32);
+        [
+            self.lr,
+            self.mr,
+            self.imsc,
+            self.ris,
+            offset_low,
+            offset_high,
+        ]
+    }
+}
+
+impl Default for RtcState {
+    fn default() -> Self {
+        Self::new(Clock::fresh().saved())
+    }
+}
+
 /// A clock that shows the host's time until the guest sets it.
 ///
 /// Registers are four bytes, the lowest first.
@@ -35,7 +92,7 @@ impl RtcEvents for NoEvents {}
 #[derive(Debug)]
 pub struct Rtc<EV: RtcEvents> {
     clock: Clock,
-    _events: EV,
+    events: EV,
 }
 
 /// The host's time in seconds since 1970; 0 while the host believes that it is earlier.
@@ -54,14 +111,49 @@ impl Default for Rtc<NoEvents> {
 impl Rtc<NoEvents> {
     /// A fresh clock.
     pub fn new() -> Self {
-        Rtc {
-            clock: Clock::fresh(),
-            _events: NoEvents,
-        }
+        Self::with_events(NoEvents)
     }
 }
 
 impl<EV: RtcEvents> Rtc<EV> {
+    /// As [`new`](Rtc::new), where the events are named. They are [`NoEvents`] yet.
+    pub fn with_events(rtc_events: EV) -> Self {
+        Rtc {
+            clock: Clock::fresh(),
+            events: rtc_events,
+        }
+    }
+
+    /// The clock that was written down as `state`. It is as far ahead of this host's time as it was of the other's.
+    ///
+    /// ```
+    /// use serialpost::rtc_pl031::{NoEvents, Rtc};
+    ///
+    /// let mut here = Rtc::new();
+    /// here.write_at(1_000, 0x008, &1_100u32.to_le_bytes());
+    /// let mut there = Rtc::from_state(&here.state(), NoEvents);
+    /// let mut time = [0; 4];
+    /// there.read_at(1_005, 0x000, &mut time);
+    /// assert_eq!(u32::from_le_bytes(time), 1_105);
+    /// ```
+    pub fn from_state(state: &RtcState, rtc_events: EV) -> Self {
+        let (clock, _) = Clock::restored(&state.words());
+        Rtc {
+            clock,
+            events: rtc_events,
+        }
+    }
+
+    /// The clock, written down. It stays as it is.
+    pub fn state(&self) -> RtcState {
+        RtcState::new(self.clock.saved())
+    }
+
+    /// The events that were named.
+    pub fn events(&self) -> &EV {
+        &self.events
+    }
+
     /// The guest reads the register at `offset`. Where there is none to be read, `data` stays as it is.
     pub fn read(&mut self, offset: u16, data: &mut [u8; 4]) {
         self.read_at(host_seconds(), offset, data);
@@ -85,45 +177,5 @@ impl<EV: RtcEvents> Rtc<EV> {
     /// vm-superio does not have this. It is for a monitor that keeps the time itself.
     pub fn write_at(&mut self, seconds: u64, offset: u16, data: &[u8; 4]) -> bool {
         self.clock.write(offset, seconds, data)
-    }
-}
-
-/// States that no access of a guest leads to yet.
-#[cfg(test)]
-mod tests {
-    use super::*;
-
-    fn shown(clock: &mut Rtc<NoEvents>, offset: u16) -> u32 {
-        let mut data = [0; 4];
-        assert!(clock.read_at(1_000, offset, &mut data));
-        u32::from_le_bytes(data)
-    }
-
-    fn clock(words: [u32; 6]) -> Rtc<NoEvents> {
-        Rtc {
-            clock: Clock(words),
-            _events: NoEvents,
-        }
-    }
-
-    #[test]
-    fn a_raw_interrupt_is_masked_and_cleared() {
-        let mut clock = clock([0, 0, 0, 1, 0, 0]);
-        assert_eq!([shown(&mut clock, 0x014), shown(&mut clock, 0x018)], [1, 0]);
-        clock.write(0x010, &[1, 0, 0, 0]);
-        assert_eq!([shown(&mut clock, 0x014), shown(&mut clock, 0x018)], [1, 1]);
-        clock.write(0x014, &[0; 4]);
-        clock.write(0x018, &[0; 4]);
-        assert_eq!([shown(&mut clock, 0x014), shown(&mut clock, 0x018)], [1, 1]);
-        clock.write(0x01c, &[1, 0, 0, 0]);
-        assert_eq!([shown(&mut clock, 0x014), shown(&mut clock, 0x018)], [0, 0]);
-    }
-
-    #[test]
-    fn a_huge_offset_shows_the_hosts_time() {
-        for offset in [i64::MAX, i64::MIN, 9_223_372_036_854_710_636] {
-            let mut clock = clock([65_535, 0, 0, 0, offset as u32, (offset >> 32) as u32]);
-            assert_eq!(shown(&mut clock, 0x000), 1_000);
-        }
     }
 }

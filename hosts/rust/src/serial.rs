@@ -21,6 +21,83 @@ pub struct NoEvents;
 impl private::Sealed for NoEvents {}
 impl SerialEvents for NoEvents {}
 
+/// A port written down: its nine registers and the bytes that wait. Every one but those with more than 64 bytes can
+/// be brought back by [`Serial::from_state`].
+///
+/// The default is the state of a fresh port.
+#[derive(Clone, Debug, Eq, PartialEq)]
+pub struct SerialState {
+    /// DLL, the divisor's low byte.
+    pub baud_divisor_low: u8,
+    /// DLM, the divisor's high byte.
+    pub baud_divisor_high: u8,
+    /// IER: which kinds of interrupt are enabled.
+    pub interrupt_enable: u8,
+    /// IIR: which kinds are marked.
+    pub interrupt_identification: u8,
+    /// LCR.
+    pub line_control: u8,
+    /// LSR.
+    pub line_status: u8,
+    /// MCR.
+    pub modem_control: u8,
+    /// MSR.
+    pub modem_status: u8,
+    /// SCR.
+    pub scratch: u8,
+    /// The bytes that wait for the guest, the next one first.
+    pub in_buffer: Vec<u8>,
+}
+
+impl SerialState {
+    /// Whether a guest and its host could have brought a fresh port to this state. Anything else was changed on its
+    /// way, or written down by another program: [`Serial::from_state`] takes it all the same.
+    ///
+    /// vm-superio does not have this.
+    pub fn is_reachable(&self) -> bool {
+        Port::restored(&self.registers(), &self.in_buffer)
+            .1
+            .reached()
+    }
+
+    fn new([dll, ier, iir, lcr, mcr, lsr, msr, scr, dlm]: [u8; 9], waiting: Vec<u8>) -> Self {
+        SerialState {
+            baud_divisor_low: dll,
+            baud_divisor_high: dlm,
+            interrupt_enable: ier,
+            interrupt_identification: iir,
+            line_control: lcr,
+            line_status: lsr,
+            modem_control: mcr,
+            modem_status: msr,
+            scratch: scr,
+            in_buffer: waiting,
+        }
+    }
+
+    /// The registers as they lie in a port's memory.
+    fn registers(&self) -> [u8; 9] {
+        [
+            self.baud_divisor_low,
+            self.interrupt_enable,
+            self.interrupt_identification,
+            self.line_control,
+            self.modem_control,
+            self.line_status,
+            self.modem_status,
+            self.scratch,
+            self.baud_divisor_high,
+        ]
+    }
+}
+
+impl Default for SerialState {
+    fn default() -> Self {
+        let (registers, waiting) = Port::fresh().saved();
+        Self::new(registers, waiting)
+    }
+}
+
 /// Why a call could not do all that it should.
 #[derive(Debug)]
 pub enum Error<E> {
@@ -28,7 +105,7 @@ pub enum Error<E> {
     Trigger(E),
     /// The guest's byte could not be written or flushed. It is lost, and the guest is not told.
     IOError(io::Error),
-    /// No byte was taken, for as many wait as the port can hold.
+    /// No byte was taken, for as many wait as the port can hold; or a state has more than that.
     FullFifo,
 }
 
@@ -51,23 +128,80 @@ impl<E: error::Error> error::Error for Error<E> {}
 pub struct Serial<T: Trigger, EV: SerialEvents, W: Write> {
     port: Port,
     interrupt_evt: T,
-    _events: EV,
+    events: EV,
     out: W,
 }
 
 impl<T: Trigger, W: Write> Serial<T, NoEvents, W> {
     /// A fresh port that raises its interrupt by `trigger` and sends to `out`.
     pub fn new(trigger: T, out: W) -> Self {
-        Serial {
-            port: Port::fresh(),
-            interrupt_evt: trigger,
-            _events: NoEvents,
-            out,
-        }
+        Self::with_events(trigger, NoEvents, out)
     }
 }
 
 impl<T: Trigger, EV: SerialEvents, W: Write> Serial<T, EV, W> {
+    /// As [`new`](Serial::new), where the events are named. They are [`NoEvents`] yet.
+    pub fn with_events(trigger: T, serial_evts: EV, out: W) -> Self {
+        Self::of(Port::fresh(), trigger, serial_evts, out)
+    }
+
+    /// The port that was written down as `state`, on a new line and a new writer.
+    ///
+    /// An interrupt that is enabled and marked is raised again, the empty transmitter's first, then that of received
+    /// data: the new line may never have seen it. Where that fails there is no port and no further raise.
+    ///
+    /// A state with more than 64 bytes is refused with [`Error::FullFifo`], and nothing is raised.
+    ///
+    /// ```
+    /// use serialpost::serial::NoEvents;
+    /// # use serialpost::{Serial, Trigger};
+    /// # struct Line;
+    /// # impl Trigger for Line {
+    /// #     type E = ();
+    /// #     fn trigger(&self) -> Result<(), ()> {
+    /// #         Ok(())
+    /// #     }
+    /// # }
+    ///
+    /// let mut here = Serial::new(Line, Vec::new());
+    /// here.enqueue_raw_bytes(b"ls").unwrap();
+    /// let state = here.state();
+    ///
+    /// let mut there = Serial::from_state(&state, Line, NoEvents, here.into_writer()).unwrap();
+    /// assert_eq!([there.read(0), there.read(0)], *b"ls");
+    /// ```
+    pub fn from_state(
+        state: &SerialState,
+        trigger: T,
+        serial_evts: EV,
+        out: W,
+    ) -> Result<Self, Error<T::E>> {
+        let (port, answer) = Port::restored(&state.registers(), &state.in_buffer);
+        if answer.refused() {
+            return Err(Error::FullFifo);
+        }
+        let serial = Self::of(port, trigger, serial_evts, out);
+        for _ in 0..answer.raises() {
+            serial.interrupt_evt.trigger().map_err(Error::Trigger)?;
+        }
+        Ok(serial)
+    }
+
+    fn of(port: Port, interrupt_evt: T, events: EV, out: W) -> Self {
+        Serial {
+            port,
+            interrupt_evt,
+            events,
+            out,
+        }
+    }
+
+    /// The port, written down. It stays as it is.
+    pub fn state(&self) -> SerialState {
+        let (registers, waiting) = self.port.saved();
+        SerialState::new(registers, waiting)
+    }
+
     /// Where the guest's bytes are sent.
     pub fn writer(&self) -> &W {
         &self.out
@@ -86,6 +220,11 @@ impl<T: Trigger, EV: SerialEvents, W: Write> Serial<T, EV, W> {
     /// What raises the interrupt.
     pub fn interrupt_evt(&self) -> &T {
         &self.interrupt_evt
+    }
+
+    /// The events that were named.
+    pub fn events(&self) -> &EV {
+        &self.events
     }
 
     /// The guest writes `value` at `offset`.
