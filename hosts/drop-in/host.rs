@@ -3,6 +3,8 @@
 use std::cell::{Cell, RefCell};
 use std::io;
 
+use judge::devices::{ClockState, SerialState};
+
 /// What one operation came to, as the monitor sees it.
 #[derive(Debug, PartialEq, Eq)]
 pub enum Outcome {
@@ -10,6 +12,8 @@ pub enum Outcome {
     Byte(u8),
     Word([u8; 4]),
     Number(usize),
+    Port(SerialState),
+    Clock(ClockState),
     Full,
     NotRaised(&'static str),
     NotSent(String),
@@ -23,10 +27,14 @@ pub enum Event {
     Raised,
 }
 
-/// What fails during one operation.
+pub fn raises(events: &[Event]) -> usize {
+    events.iter().filter(|e| **e == Event::Raised).count()
+}
+
+/// What fails during one operation; of the line, the first and the second time that it is raised.
 #[derive(Clone, Copy, Debug, Default)]
 pub struct Faults {
-    pub line: bool,
+    pub line: [bool; 2],
     pub write: bool,
     pub flush: bool,
 }
@@ -47,8 +55,9 @@ impl Host {
     }
 
     pub fn raise(&self) -> Result<(), &'static str> {
+        let raised_before = raises(&self.events.borrow());
         self.note(Event::Raised);
-        if self.faults.get().line {
+        if self.faults.get().line.get(raised_before) == Some(&true) {
             return Err("the line is cut");
         }
         Ok(())

@@ -5,7 +5,8 @@ use std::io::{self, Write};
 use std::rc::Rc;
 
 use devices::serial::{Error, NoEvents};
-use devices::{rtc_pl031, I8042Device, Rtc, Serial, Trigger};
+use devices::{rtc_pl031, I8042Device, Rtc, RtcState, Serial, SerialState, Trigger};
+use judge::devices as words;
 use judge::format::{Device, Operation};
 
 use crate::host::{Host, Outcome};
@@ -39,9 +40,17 @@ enum Current {
     I8042(I8042Device<Line>),
 }
 
+/// What was saved last, of each kind.
+#[derive(Default)]
+struct Kept {
+    port: Option<SerialState>,
+    clock: Option<RtcState>,
+}
+
 pub struct Monitor {
     host: Rc<Host>,
     current: Current,
+    kept: Kept,
 }
 
 impl Monitor {
@@ -49,6 +58,7 @@ impl Monitor {
         Monitor {
             host,
             current: Current::None,
+            kept: Kept::default(),
         }
     }
 
@@ -60,8 +70,8 @@ impl Monitor {
         }
         match &mut self.current {
             Current::None => Outcome::Done,
-            Current::Serial(port) => on_serial(port, operation),
-            Current::Clock(clock) => on_clock(clock, operation),
+            Current::Serial(port) => on_serial(&self.host, port, &mut self.kept.port, operation),
+            Current::Clock(clock) => on_clock(clock, &mut self.kept.clock, operation),
             Current::I8042(controller) => on_i8042(controller, operation),
         }
     }
@@ -84,7 +94,14 @@ fn failure(error: Error<&'static str>) -> Outcome {
     }
 }
 
-fn on_serial(port: &mut Serial<Line, NoEvents, Wire>, operation: &Operation) -> Outcome {
+// ---- The serial port
+
+fn on_serial(
+    host: &Rc<Host>,
+    port: &mut Serial<Line, NoEvents, Wire>,
+    kept: &mut Option<SerialState>,
+    operation: &Operation,
+) -> Outcome {
     match operation {
         Operation::WriteByte { offset, value } => port
             .write(*offset, *value)
@@ -94,11 +111,73 @@ fn on_serial(port: &mut Serial<Line, NoEvents, Wire>, operation: &Operation) -> 
             .enqueue_raw_bytes(bytes)
             .map_or_else(failure, Outcome::Number),
         Operation::Room => Outcome::Number(port.fifo_capacity()),
+        Operation::State => Outcome::Port(port_words(&port.state())),
+        Operation::Save => Outcome::Port(port_words(kept.insert(port.state()))),
+        Operation::Restore => match kept {
+            Some(state) => restore_port(host, port, state),
+            None => Outcome::Done,
+        },
+        Operation::RestoreSerial(words) => restore_port(host, port, &port_state(words)),
         _ => Outcome::Done,
     }
 }
 
-fn on_clock(clock: &mut Rtc<rtc_pl031::NoEvents>, operation: &Operation) -> Outcome {
+/// Where the state is not brought back the port stays.
+fn restore_port(
+    host: &Rc<Host>,
+    port: &mut Serial<Line, NoEvents, Wire>,
+    state: &SerialState,
+) -> Outcome {
+    let (line, wire) = (Line(host.clone()), Wire(host.clone()));
+    match Serial::from_state(state, line, NoEvents, wire) {
+        Ok(restored) => {
+            *port = restored;
+            Outcome::Done
+        }
+        Err(error) => failure(error),
+    }
+}
+
+fn port_words(state: &SerialState) -> words::SerialState {
+    words::SerialState {
+        registers: [
+            state.baud_divisor_low,
+            state.baud_divisor_high,
+            state.interrupt_enable,
+            state.interrupt_identification,
+            state.line_control,
+            state.line_status,
+            state.modem_control,
+            state.modem_status,
+            state.scratch,
+        ],
+        buffer: state.in_buffer.clone(),
+    }
+}
+
+pub fn port_state(words: &words::SerialState) -> SerialState {
+    let [dll, dlm, ier, iir, lcr, lsr, mcr, msr, scr] = words.registers;
+    SerialState {
+        baud_divisor_low: dll,
+        baud_divisor_high: dlm,
+        interrupt_enable: ier,
+        interrupt_identification: iir,
+        line_control: lcr,
+        line_status: lsr,
+        modem_control: mcr,
+        modem_status: msr,
+        scratch: scr,
+        in_buffer: words.buffer.clone(),
+    }
+}
+
+// ---- The clock
+
+fn on_clock(
+    clock: &mut Rtc<rtc_pl031::NoEvents>,
+    kept: &mut Option<RtcState>,
+    operation: &Operation,
+) -> Outcome {
     match operation {
         Operation::WriteWord { offset, data } => {
             clock.write(*offset, data);
@@ -109,9 +188,43 @@ fn on_clock(clock: &mut Rtc<rtc_pl031::NoEvents>, operation: &Operation) -> Outc
             clock.read(*offset, &mut data);
             Outcome::Word(data)
         }
+        Operation::State => Outcome::Clock(clock_words(&clock.state())),
+        Operation::Save => Outcome::Clock(clock_words(kept.insert(clock.state()))),
+        Operation::Restore => {
+            if let Some(state) = kept {
+                *clock = Rtc::from_state(state, rtc_pl031::NoEvents);
+            }
+            Outcome::Done
+        }
+        Operation::RestoreClock(words) => {
+            *clock = Rtc::from_state(&clock_state(words), rtc_pl031::NoEvents);
+            Outcome::Done
+        }
         _ => Outcome::Done,
     }
 }
+
+fn clock_words(state: &RtcState) -> words::ClockState {
+    words::ClockState {
+        load: state.lr,
+        offset: state.offset,
+        match_: state.mr,
+        mask: state.imsc,
+        raw: state.ris,
+    }
+}
+
+pub fn clock_state(words: &words::ClockState) -> RtcState {
+    RtcState {
+        lr: words.load,
+        offset: words.offset,
+        mr: words.match_,
+        imsc: words.mask,
+        ris: words.raw,
+    }
+}
+
+// ---- The reset controller
 
 fn on_i8042(controller: &mut I8042Device<Line>, operation: &Operation) -> Outcome {
     match operation {
