@@ -12,17 +12,17 @@ ghost use Rattle.clock.specs.Layout.{joined, signed, clockOf, Answered, 
 
 // ---- The six words
 
-const LOAD: usize = 0;
+pub const LOAD: usize = 0;
 
-const MATCH: usize = 1;
+pub const MATCH: usize = 1;
 
-const MASK: usize = 2;
+pub const MASK: usize = 2;
 
-const RAW_STATUS: usize = 3;
+pub const RAW_STATUS: usize = 3;
 
-const AHEAD_LOW: usize = 4;
+pub const AHEAD_LOW: usize = 4;
 
-const AHEAD_HIGH: usize = 5;
+pub const AHEAD_HIGH: usize = 5;
 
 // ---- The registers' offsets, by the manual's names
 
@@ -48,7 +48,7 @@ const ID_LAST: u16 = 0xfff;
 
 // ---- Arrays are as long as their types say: calls that tell a proof so, and compile to nothing
 
-fn six(x: &[u32; 6])
+pub fn six(x: &[u32; 6])
     ensures { λ r. ⌜ length (now (x .entry)) ≡ 6 ⌝ }
 {
     let s: &[u32] = x;
@@ -74,7 +74,7 @@ fn answer(bytes: &mut [u8; 4], value: u32) -> bool
     true
 }
 
-fn number(b0: u8, b1: u8, b2: u8, b3: u8) -> u32
+pub fn number(b0: u8, b1: u8, b2: u8, b3: u8) -> u32
     ensures { λ r. ⌜ r ≡ valueOf (b0 ∷ b1 ∷ b2 ∷ b3 ∷ []) ⌝ }
 {
     (b0 as u32) + 256 * ((b1 as u32) + 256 * ((b2 as u32) + 256 * (b3 as u32)))
@@ -96,7 +96,7 @@ fn seconds(time: u64) -> u32
     (time % 0x1_0000_0000) as u32
 }
 
-fn join(low: u32, high: u32) -> u64
+pub fn join(low: u32, high: u32) -> u64
     ensures { λ r. ⌜ r ≡ joined low high ⌝ }
 {
     (low as u64) + 0x1_0000_0000 * (high as u64)

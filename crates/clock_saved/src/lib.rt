@@ -1,5 +1,11 @@
 // A clock is written down and brought back. What is written down are its six words. Any six words are some clock, so every one is
 // believed; the answer says whether a run from a fresh clock could have come to them.
+use clock::AHEAD_HIGH;
+use clock::AHEAD_LOW;
+use clock::LOAD;
+use clock::MASK;
+use clock::RAW_STATUS;
+use clock::join;
 ghost use mathlib.Core.Path.{_≡_};
 ghost use mathlib.Core.Bool.{true};
 ghost use mathlib.Core.Logic.{_↔_};
@@ -7,18 +13,6 @@ ghost use Rattle.clock.specs.Layout.{joined, signed};
 ghost use Rattle.clock.specs.Runs.{Words};
 ghost use Rattle.clock_saved.specs.Reachable.{ShowedAt};
 ghost use Rattle.clock_saved.specs.Saved.{Restores};
-
-// ---- Where they lie among the six words
-
-const LOAD: usize = 0;
-
-const MASK: usize = 2;
-
-const RAW_STATUS: usize = 3;
-
-const AHEAD_LOW: usize = 4;
-
-const AHEAD_HIGH: usize = 5;
 
 // Six words are six, of 32 bits each: a call that tells a proof so, and compiles to nothing. To read one of a slice tells of all.
 fn six_words(x: &[u32; 6])
@@ -46,8 +40,7 @@ fn copy(from: &[u32; 6], to: &mut [u32; 6])
 fn showed(value: u32, low: u32, high: u32) -> bool
     ensures { λ r. ⌜ (r ≡ true) ↔ ShowedAt (signed (joined low high)) value ⌝ }
 {
-    let ahead = (low as u64) + 0x1_0000_0000 * (high as u64);
-    let now = std::num::wrapping_sub_u64(value as u64, ahead);
+    let now = std::num::wrapping_sub_u64(value as u64, join(low, high));
     if now < 0x1_0000_0000 {
         return true;
     }

@@ -5,8 +5,20 @@ use mathlib.Core.List.{List, [], _∷_}
 use Prim.Native.Nat.{ℕ, zero, suc, _+_, _*_, _/_, _%_, _^_, _<_}
 use native.Mathlib.Nat.{pow-succ'}
 use native.Mathlib.Omega.{arith}
-use lib.ListN.{length}
+use lib.ListN.{length, take, drop}
 use Rattle.common.specs.Bytes.{bytesOf, valueOf, Bytes}
+
+-- ---- Parts
+
+pub bytes-take : (n : ℕ) (bytes : List ℕ) → Bytes bytes → Bytes (take n bytes)
+bytes-take zero bytes b = tt
+bytes-take (suc n) [] b = tt
+bytes-take (suc n) (x ∷ xs) b = (b .0, bytes-take n xs (b .1))
+
+pub bytes-drop : (n : ℕ) (bytes : List ℕ) → Bytes bytes → Bytes (drop n bytes)
+bytes-drop zero bytes b = b
+bytes-drop (suc n) [] b = tt
+bytes-drop (suc n) (x ∷ xs) b = bytes-drop n xs (b .1)
 
 -- ---- The bytes of a number
 

@@ -47,7 +47,8 @@ returns-3 c =
     let quiet = c .before .before .before .before in
     let copied = quiet .before .before .before .before in
     let told = copied .before .before in
-    told-by-second (told .before .args .saved .now) _ (told .six-words .ensures) (copied .copy .ensures) (omega arith) (quiet .if2 .left) (c .showed .ensures)
+    told-by-second (told .before .args .saved .now) _ (told .six-words .ensures) (copied .copy .ensures) (omega arith) (quiet .if2 .left)
+    (c .showed .ensures)
 
 pub serialpost-clock-restore-spec : {M : Type 1} → statement M
 serialpost-clock-restore-spec =
