@@ -4,13 +4,14 @@ use mathlib.Core.Path.{_≡_, refl, sym, ap, _∙_}
 use mathlib.Core.Logic.{_⊎_, inl, inr, ⊎-elim}
 use mathlib.Core.Bool.{Bool, true, false, cond, _&&_, true≢false, false≢true}
 use mathlib.Core.List.{List, [], _∷_, _++_, tail}
-use Prim.Native.Nat.{ℕ, zero, suc, _<_, _≤_}
+use Prim.Native.Nat.{ℕ, _<_, _≤_}
 use native.Mathlib.Omega.{arith}
-use lib.ListN.{length, take, length-append}
+use lib.ListN.{length, length-append}
 use lib.Bits.{and-le-r}
 use lib.Dec.{lit<, ltb}
 use Rattle.common.specs.Bytes.{Bytes}
 use Rattle.common.specs.Lists.{some}
+use Rattle.common.proofs.Bytes.{bytes-take}
 use Rattle.serial.specs.Interrupts.{receivedData, ierStored, isEnabled, isMarked, mark, unmark, Announced}
 use Rattle.serial.specs.LineStatus.{lsrReady, lsrAfterRead}
 use Rattle.serial.specs.Port.{Register, RBR-THR, IER, IIR-FCR, LCR, MCR, LSR, MSR, SCR, DLL, DLM, beyond, addressed, Settings, Port, isOpen, fresh, writeIer, writeRegister}
@@ -31,11 +32,6 @@ use Rattle.runs.proofs.Announcing.{ier-marks}
 bytes-append : (q l : List ℕ) → Bytes q → Bytes l → Bytes (q ++ l)
 bytes-append [] l b c = c
 bytes-append (x ∷ q) l b c = (b .0, bytes-append q l (b .1) c)
-
-bytes-take : (n : ℕ) (l : List ℕ) → Bytes l → Bytes (take n l)
-bytes-take zero l b = tt
-bytes-take (suc n) [] b = tt
-bytes-take (suc n) (x ∷ l) b = (b .0, bytes-take n l (b .1))
 
 bytes-tail : (l : List ℕ) → Bytes l → Bytes (tail l)
 bytes-tail [] b = tt
