@@ -1,12 +1,14 @@
 -- The clock's lines and their answers.
 use Prim.Native.Nat.{ℕ, _+_, _*_, _≤_}
 use mathlib.Core.Path.{_≡_}
-use mathlib.Core.Bool.{Bool, cond}
+use mathlib.Core.Bool.{Bool, true, false, cond, _||_}
 use mathlib.Core.List.{List, [], _∷_, _++_}
+use mathlib.Core.Logic.{_↔_}
 use lib.ListN.{getD, drop}
 use Rattle.common.specs.Bytes.{valueOf}
 use Rattle.clock.specs.Registers.{Clock, Reply, Change, readOf, writeOf}
 use Rattle.clock.specs.Layout.{clockOf, bytesAfter, readValid, clockAfter, writeValid}
+use Rattle.clock_saved.specs.Reachable.{Reachable}
 use Rattle.words.specs.Decimal.{numberOf}
 use Rattle.words.specs.Hex.{byteAt, digitsOf, wordDigits}
 use Rattle.words.specs.Pattern.{fitsOf, beginsLike}
@@ -14,6 +16,13 @@ use Rattle.words.specs.Put.{Puts}
 use Rattle.words.specs.Text.{text}
 use Rattle.words.specs.declared.decimal.Number.{Number}
 use Rattle.words.specs.declared.decimal.Number.the-variants.{Is, Bad}
+
+-- What the caller lends: the clock, the host's time, the clock that was saved last, and whether one was.
+pub record Lent : Type 0 where
+  pub clock : List ℕ
+  pub time : ℕ
+  pub kept : List ℕ
+  pub keeps : Bool
 
 -- ---- What a line asks for
 
@@ -24,22 +33,38 @@ offsetIn line = byteAt line 2 * 256 + byteAt line 4
 abbrev pub bytesIn : List ℕ → List ℕ
 bytesIn line = byteAt line 7 ∷ byteAt line 9 ∷ byteAt line 11 ∷ byteAt line 13 ∷ []
 
+-- The number of eight digits, the highest first.
+abbrev pub wordAt : List ℕ → ℕ → ℕ
+wordAt line i = (byteAt line i * 0x100 + byteAt line (i + 2)) * 0x1_0000 + (byteAt line (i + 4) * 0x100 + byteAt line (i + 6))
+
+-- The six words of a clock, of `restore LOAD OFFSET MATCH MASK RAW`.
+abbrev pub wordsIn : List ℕ → List ℕ
+wordsIn line = wordAt line 8 ∷ wordAt line 34 ∷ wordAt line 43 ∷ wordAt line 52 ∷ wordAt line 25 ∷ wordAt line 17 ∷ []
+
 pub data Asks : Type 0 where
   read write : ℕ → List ℕ → Asks
   setTime : ℕ → Asks
-  showState : Asks
+  showState save : Asks
+  restore : List ℕ → Asks
   nothing : Asks
 
 abbrev pub asksTime : Number → Asks
 asksTime (Is time) = setTime time
 asksTime Bad = nothing
 
-unfoldable pub asks : List ℕ → Asks
-asks line =
+-- `restore` alone asks for the clock that was saved last.
+unfoldable pub asksSaved : Lent → List ℕ → Asks
+asksSaved lent line =
+    cond (fitsOf (text "save") line) save
+    (cond (fitsOf (text "restore") line) (cond (lent .keeps) (restore (lent .kept)) nothing)
+    (cond (fitsOf (text "restore LLLLLLLL OOOOOOOOOOOOOOOO MMMMMMMM KKKKKKKK RRRRRRRR") line) (restore (wordsIn line)) nothing))
+
+unfoldable pub asks : Lent → List ℕ → Asks
+asks lent line =
     cond (fitsOf (text "r OOOO BBBBBBBB") line) (read (offsetIn line) (bytesIn line))
     (cond (fitsOf (text "w OOOO BBBBBBBB") line) (write (offsetIn line) (bytesIn line))
     (cond (beginsLike (text "now ") line) (asksTime (numberOf (drop 4 line)))
-    (cond (fitsOf (text "state") line) showState nothing)))
+    (cond (fitsOf (text "state") line) showState (asksSaved lent line))))
 
 -- ---- What is said
 
@@ -53,18 +78,34 @@ readSays reply bytes = text "r " ++ fourDigits (bytesAfter reply bytes) ++ cond 
 abbrev pub writeSays : Change → List ℕ
 writeSays change = cond (writeValid change) (text "w ok\n") (text "w invalid\n")
 
--- The load register, the two halves of what the clock is ahead of the host's time, the match register, the mask and the raw status.
-abbrev pub stateSays : List ℕ → List ℕ
-stateSays words =
-    text "state" ++ (text " " ++ wordDigits (getD words 0 0)) ++ (text " " ++ wordDigits (getD words 5 0)) ++ wordDigits (getD words 4 0) ++
+-- After `state` or `save`: the load register, the two halves of what the clock is ahead of the host's time, the match register, the mask and the raw
+-- status.
+abbrev pub stateSays : List ℕ → List ℕ → List ℕ
+stateSays name words =
+    name ++ (text " " ++ wordDigits (getD words 0 0)) ++ (text " " ++ wordDigits (getD words 5 0)) ++ wordDigits (getD words 4 0) ++
     (text " " ++ wordDigits (getD words 1 0)) ++ (text " " ++ wordDigits (getD words 2 0)) ++ (text " " ++ wordDigits (getD words 3 0)) ++ text "\n"
 
-abbrev pub says : Asks → List ℕ → ℕ → List ℕ
-says (read offset bytes) words time = readSays (readOf (clockOf words) time offset) bytes
-says (write offset bytes) words time = writeSays (writeOf (clockOf words) time offset (valueOf bytes))
-says (setTime t) words time = text "now\n"
-says showState words time = stateSays words
-says nothing words time = text "?\n"
+abbrev pub restoreSays : Bool → List ℕ
+restoreSays reached = cond reached (text "restore reached\n") (text "restore unreached\n")
+
+abbrev pub says : Asks → Lent → Bool → List ℕ
+says (read offset bytes) lent reached = readSays (readOf (clockOf (lent .clock)) (lent .time) offset) bytes
+says (write offset bytes) lent reached = writeSays (writeOf (clockOf (lent .clock)) (lent .time) offset (valueOf bytes))
+says (setTime t) lent reached = text "now\n"
+says showState lent reached = stateSays (text "state") (lent .clock)
+says save lent reached = stateSays (text "save") (lent .clock)
+says (restore saved) lent reached = restoreSays reached
+says nothing lent reached = text "?\n"
+
+-- What `reached` is where a clock is brought back: whether a run from a fresh one could have come to it.
+abbrev pub Tells : Asks → Bool → Type 0
+Tells (restore saved) reached = (reached ≡ true) ↔ Reachable (clockOf saved)
+Tells (read offset bytes) reached = Unit {0}
+Tells (write offset bytes) reached = Unit {0}
+Tells (setTime t) reached = Unit {0}
+Tells showState reached = Unit {0}
+Tells save reached = Unit {0}
+Tells nothing reached = Unit {0}
 
 -- ---- What changes
 
@@ -73,6 +114,8 @@ clockThen (read offset bytes) clock time = clock
 clockThen (write offset bytes) clock time = clockAfter (writeOf clock time offset (valueOf bytes)) clock
 clockThen (setTime t) clock time = clock
 clockThen showState clock time = clock
+clockThen save clock time = clock
+clockThen (restore saved) clock time = clockOf saved
 clockThen nothing clock time = clock
 
 abbrev pub timeThen : Asks → ℕ → ℕ
@@ -80,16 +123,38 @@ timeThen (read offset bytes) time = time
 timeThen (write offset bytes) time = time
 timeThen (setTime t) time = t
 timeThen showState time = time
+timeThen save time = time
+timeThen (restore saved) time = time
 timeThen nothing time = time
+
+abbrev pub isSave : Asks → Bool
+isSave (read offset bytes) = false
+isSave (write offset bytes) = false
+isSave (setTime t) = false
+isSave showState = false
+isSave save = true
+isSave (restore saved) = false
+isSave nothing = false
 
 -- A write was answered.
 pub record Wrote (change : Change) (words words′ out : List ℕ) (at : ℕ) (out′ : List ℕ) (r : ℕ) : Type 0 where
   pub said : Puts out at (writeSays change) out′ r
   pub clock : clockOf words′ ≡ clockAfter change (clockOf words)
 
+-- A clock was brought back.
+pub record Brought (saved words′ out : List ℕ) (at : ℕ) (out′ : List ℕ) (r : ℕ) : Type 0 where
+  pub reached : Bool
+  pub tells : (reached ≡ true) ↔ Reachable (clockOf saved)
+  pub said : Puts out at (restoreSays reached) out′ r
+  pub words : words′ ≡ saved
+
 -- A line was answered.
-pub record Answers (asked : Asks) (words : List ℕ) (time : ℕ) (out : List ℕ) (at : ℕ) (words′ : List ℕ) (time′ : ℕ) (out′ : List ℕ) (r : ℕ) : Type 0 where
-  pub said : Puts out at (says asked words time) out′ r
-  pub clock : clockOf words′ ≡ clockThen asked (clockOf words) time
-  pub kept : time′ ≡ timeThen asked time
+pub record Answers (asked : Asks) (lent : Lent) (out : List ℕ) (at : ℕ) (lent′ : Lent) (out′ : List ℕ) (r : ℕ) : Type 0 where
+  pub reached : Bool
+  pub tells : Tells asked reached
+  pub said : Puts out at (says asked lent reached) out′ r
+  pub clock : clockOf (lent′ .clock) ≡ clockThen asked (clockOf (lent .clock)) (lent .time)
+  pub time : lent′ .time ≡ timeThen asked (lent .time)
+  pub kept : lent′ .kept ≡ cond (isSave asked) (lent .clock) (lent .kept)
+  pub keeps : lent′ .keeps ≡ (isSave asked || lent .keeps)
   pub short : r ≤ at + 4096

@@ -1,4 +1,6 @@
 // The lines of the clock.
+mod saved;
+
 use clock::serialpost_clock_init;
 use clock::serialpost_clock_read;
 use clock::serialpost_clock_write;
@@ -15,6 +17,7 @@ use words::put::unknown;
 ghost use Prim.Native.Nat.{_+_, _≤_};
 ghost use mathlib.Core.Path.{_≡_};
 ghost use mathlib.Core.List.{_++_};
+ghost use lib.ListN.{length};
 ghost use Rattle.common.specs.Bytes.{valueOf};
 ghost use Rattle.clock.specs.Registers.{readOf, writeOf, fresh};
 ghost use Rattle.clock.specs.Layout.{clockOf};
@@ -34,9 +37,18 @@ pub fn begin(clock: &mut Clock, time: &mut u64)
     *time = 0;
 }
 
-pub fn answer(line: &[u8], clock: &mut Clock, time: &mut u64, out: &mut Block, at: usize) -> usize
+// `kept` is the clock that was saved last, if `keeps` says that one was.
+pub fn answer(
+    line: &[u8],
+    clock: &mut Clock,
+    time: &mut u64,
+    kept: &mut Clock,
+    keeps: &mut bool,
+    out: &mut Block,
+    at: usize,
+) -> usize
     requires { ⌜ at + 4096 ≤ 65536 ⌝ }
-    ensures { λ r. ⌜ Answers (asks (now (line .entry))) (now (clock .entry)) (now (time .entry)) (now (out .entry)) at (now (clock .exit)) (now (time .exit)) (now (out .exit)) r ⌝ }
+    ensures { λ r. ⌜ Answers (asks (record { clock = now (clock .entry); time = now (time .entry); kept = now (kept .entry); keeps = now (keeps .entry) }) (now (line .entry))) (record { clock = now (clock .entry); time = now (time .entry); kept = now (kept .entry); keeps = now (keeps .entry) }) (now (out .entry)) at (record { clock = now (clock .exit); time = now (time .exit); kept = now (kept .exit); keeps = now (keeps .exit) }) (now (out .exit)) r ⌝ }
 {
     if fits(line, b"r OOOO BBBBBBBB") {
         return read(clock, offset_in(line), *time, bytes_in(line), out, at);
@@ -52,9 +64,9 @@ pub fn answer(line: &[u8], clock: &mut Clock, time: &mut u64, out: &mut Block, a
         return put(out, at, b"now\n");
     }
     if fits(line, b"state") {
-        return state(clock, out, at);
+        return state(b"state", clock, out, at);
     }
-    unknown(out, at)
+    saved::answer(line, clock, kept, keeps, out, at)
 }
 
 // OOOO, of `r OOOO BBBBBBBB` and `w OOOO BBBBBBBB`.
@@ -127,14 +139,15 @@ fn write(
     put(out, at, b"w invalid\n")
 }
 
-// The load register, how far the clock is ahead of the host's time, the match register, the mask and
-// the raw status.
-fn state(clock: &Clock, out: &mut Block, at: usize) -> usize
+// After `name`: the load register, how far the clock is ahead of the host's time, the match register,
+// the mask and the raw status.
+fn state(name: &[u8], clock: &Clock, out: &mut Block, at: usize) -> usize
     requires { ⌜ at + 4096 ≤ 65536 ⌝ }
-    ensures { λ r. ⌜ Puts (now (out .entry)) at (stateSays (now (clock .entry))) (now (out .exit)) r ⌝ }
+    requires { ⌜ length (now name) ≤ 5 ⌝ }
+    ensures { λ r. ⌜ Puts (now (out .entry)) at (stateSays (now (name .entry)) (now (clock .entry))) (now (out .exit)) r ⌝ }
     ensures { λ r. ⌜ r ≤ at + 4096 ⌝ }
 {
-    let a = put(out, at, b"state");
+    let a = put(out, at, name);
     let b = put_next(out, a, clock[0]);
     let c = put_next(out, b, clock[5]);
     let d = put_word(out, c, clock[4]);

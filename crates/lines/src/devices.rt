@@ -25,16 +25,22 @@ pub struct Said {
     pub put: usize,
 }
 
-// Answers a line, which names a device or speaks to the current one, from `at` on.
+// Answers a line, which names a device or speaks to the current one, from `at` on. A fresh device
+// leaves what was saved.
 pub fn answer(
     line: &[u8],
     kind: Kind,
     device: Device,
     clock: &mut Clock,
     time: &mut u64,
+    kept: &mut Clock,
+    keeps: &mut bool,
     regs: &mut Regs,
     pos: &mut Pos,
     ring: &mut Ring,
+    saved: &mut Regs,
+    waiting: &mut Ring,
+    count: &mut u32,
     out: &mut Block,
     at: usize,
 ) -> Said
@@ -84,11 +90,11 @@ pub fn answer(
         },
         Device::Clock => Said {
             device,
-            put: clock_lines::answer(line, clock, time, out, at),
+            put: clock_lines::answer(line, clock, time, kept, keeps, out, at),
         },
         Device::Serial => Said {
             device,
-            put: serial_lines::answer(line, regs, pos, ring, out, at),
+            put: serial_lines::answer(line, regs, pos, ring, saved, waiting, count, out, at),
         },
     }
 }

@@ -52,14 +52,20 @@ pub fn start() -> State
     }
 }
 
-// Answers each whole line that is held, until none is left or `out` is nearly full.
+// Answers each whole line that is held, until none is left or `out` is nearly full. The devices are
+// those of `clock_lines` and `serial_lines`, each with the one that was saved last.
 pub fn answer(
     held: &Block,
     clock: &mut Clock,
     time: &mut u64,
+    kept: &mut Clock,
+    keeps: &mut bool,
     regs: &mut Regs,
     pos: &mut Pos,
     ring: &mut Ring,
+    saved: &mut Regs,
+    waiting: &mut Ring,
+    count: &mut u32,
     out: &mut Block,
     before: State,
 ) -> State
@@ -87,9 +93,14 @@ pub fn answer(
             device,
             clock,
             time,
+            kept,
+            keeps,
             regs,
             pos,
             ring,
+            saved,
+            waiting,
+            count,
             out,
             state.put,
         );

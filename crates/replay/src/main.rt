@@ -143,9 +143,14 @@ fn run(
     held: &mut Block,
     clock: &mut Clock,
     time: &mut u64,
+    kept: &mut Clock,
+    keeps: &mut bool,
     regs: &mut Regs,
     pos: &mut Pos,
     ring: &mut Ring,
+    saved: &mut Regs,
+    waiting: &mut Ring,
+    count: &mut u32,
     out: &mut Block,
 ) {
     let mut state = lines::start();
@@ -155,7 +160,21 @@ fn run(
         if !next.more {
             return;
         }
-        state = lines::answer(held, clock, time, regs, pos, ring, out, next.state);
+        state = lines::answer(
+            held,
+            clock,
+            time,
+            kept,
+            keeps,
+            regs,
+            pos,
+            ring,
+            saved,
+            waiting,
+            count,
+            out,
+            next.state,
+        );
         turns -= 1;
     }
 }
@@ -165,16 +184,26 @@ fn main() {
     let mut out = io::large_buffer();
     let mut clock = [0u32; 6];
     let mut time = 0u64;
+    let mut kept = [0u32; 6];
+    let mut keeps = false;
     let mut regs = [0u8; 9];
     let mut pos = [0u32; 2];
     let mut ring = [0u8; 64];
+    let mut saved = [0u8; 9];
+    let mut waiting = [0u8; 64];
+    let mut count = serial_lines::NONE;
     run(
         &mut held,
         &mut clock,
         &mut time,
+        &mut kept,
+        &mut keeps,
         &mut regs,
         &mut pos,
         &mut ring,
+        &mut saved,
+        &mut waiting,
+        &mut count,
         &mut out,
     );
 }

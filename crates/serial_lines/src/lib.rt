@@ -1,4 +1,6 @@
 // The lines of the serial port.
+mod saved;
+
 use serial::serialpost_serial_init;
 use serial::serialpost_serial_input;
 use serial::serialpost_serial_read;
@@ -28,16 +30,24 @@ pub type Ring = [u8; 64];
 // As many bytes may wait.
 const CAPACITY: usize = 64;
 
+// No port was saved yet: more bytes than may wait.
+pub const NONE: u32 = 65;
+
 // Makes the serial port a fresh one.
 pub fn begin(regs: &mut Regs, pos: &mut Pos) {
     serialpost_serial_init(regs, pos);
 }
 
+// `saved`, `waiting` and `count` are the port that was saved last: its registers, its waiting bytes,
+// and how many there are, or `NONE`.
 pub fn answer(
     line: &[u8],
     regs: &mut Regs,
     pos: &mut Pos,
     ring: &mut Ring,
+    saved: &mut Regs,
+    waiting: &mut Ring,
+    count: &mut u32,
     out: &mut Block,
     at: usize,
 ) -> usize
@@ -62,7 +72,7 @@ pub fn answer(
     if fits(line, b"state") {
         return state(regs, pos, ring, out, at);
     }
-    unknown(out, at)
+    saved::answer(line, regs, pos, ring, saved, waiting, count, out, at)
 }
 
 fn write(
@@ -182,8 +192,18 @@ fn state(regs: &Regs, pos: &Pos, ring: &Ring, out: &mut Block, at: usize) -> usi
     ensures { λ r. ⌜ r ≤ at + 4096 ⌝ }
 {
     let a = put(out, at, b"state");
-    let b = put_regs(out, a, regs);
-    put_waiting(out, b, wide(pos[0]) % CAPACITY, capped(pos[1]), ring)
+    put_port(out, a, regs, wide(pos[0]) % CAPACITY, capped(pos[1]), ring)
+}
+
+// Ends an answer with a port: its registers, and `count` bytes of its ring from `start` on.
+fn put_port(out: &mut Block, at: usize, regs: &Regs, start: usize, count: u32, ring: &Ring) -> usize
+    requires { ⌜ at + 283 ≤ 65536 ⌝ }
+    requires { ⌜ start < 64 ⌝ }
+    requires { ⌜ count ≤ 64 ⌝ }
+    ensures { λ r. ⌜ r ≤ at + 283 ⌝ }
+{
+    let a = put_regs(out, at, regs);
+    put_waiting(out, a, start, count, ring)
 }
 
 // The divisor's two bytes, IER, IIR, LCR, LSR, MCR, MSR and SCR.

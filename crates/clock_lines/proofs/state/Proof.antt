@@ -5,9 +5,6 @@ use borrow.Author.Needs.{needs}
 use Rattle.clock_lines.proofs.state.Statement.{statement}
 use Rattle.clock_lines.proofs.state.Tie as tie
 
-slice-aggregate-put : tie.Need-slice-aggregate-put
-slice-aggregate-put c = search needs
-
 put-requires : tie.Need-put-requires
 put-requires c κs = search needs
 
@@ -47,8 +44,8 @@ element-copy-out-put-next-5 c = search needs
 put-next-requires-5 : tie.Need-put-next-requires-5
 put-next-requires-5 c κs = search needs
 
-slice-aggregate-put-2 : tie.Need-slice-aggregate-put-2
-slice-aggregate-put-2 c = search needs
+slice-aggregate-put : tie.Need-slice-aggregate-put
+slice-aggregate-put c = search needs
 
 put-requires-2 : tie.Need-put-requires-2
 put-requires-2 c κs = search needs
@@ -61,7 +58,6 @@ pub state-spec : {M : Type 1} → statement M
 state-spec =
     tie.close
     (tie.spec
-    slice-aggregate-put
     put-requires
     element-copy-out-put-next
     put-next-requires
@@ -75,6 +71,6 @@ state-spec =
     put-next-requires-4
     element-copy-out-put-next-5
     put-next-requires-5
-    slice-aggregate-put-2
+    slice-aggregate-put
     put-requires-2
     returns)

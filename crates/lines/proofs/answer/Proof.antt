@@ -1,5 +1,5 @@
 use Prim.Native.Nat.{ℕ, _+_, _-_, _≤_, _<_}
-use mathlib.Core.Path.{_≡_}
+use mathlib.Core.Path.{_≡_, refl}
 use borrow.Author.Needs.{needs}
 use native.Mathlib.Omega.{arith}
 use lib.ListN.{length}
@@ -8,11 +8,11 @@ use Rattle.lines.proofs.answer.Statement.{statement}
 use Rattle.lines.proofs.answer.Tie as tie
 
 abbrev Inv-loop : tie.InvT-loop
-Inv-loop held clock₀ time₀ regs₀ pos₀ ring₀ out₀ all end ended state₀ clock time regs pos ring out state =
+Inv-loop held clock₀ time₀ kept₀ keeps₀ regs₀ pos₀ ring₀ saved₀ waiting₀ count₀ out₀ all end ended state₀ clock time kept keeps regs pos ring saved waiting count out state =
     Sound state × (state .end ≡ end) × (end ≤ length all)
 
 abbrev μ-loop : tie.MeasureT-loop
-μ-loop held clock₀ time₀ regs₀ pos₀ ring₀ out₀ all end ended state₀ clock time regs pos ring out state =
+μ-loop held clock₀ time₀ kept₀ keeps₀ regs₀ pos₀ ring₀ saved₀ waiting₀ count₀ out₀ all end ended state₀ clock time kept keeps regs pos ring saved waiting count out state =
     end - state .seen
 
 loop-holds : tie.Need-loop-holds Inv-loop μ-loop
@@ -40,7 +40,10 @@ loop-less : tie.Need-loop-less Inv-loop μ-loop
 loop-less c = search needs
 
 loop-again : tie.Need-loop-again Inv-loop μ-loop
-loop-again c = search needs
+loop-again c =
+    let inv = c .before .before .before .before .before .before .before .before .before .before .before .before .before .before .before .before .before .before .loop .inv in
+    let cut = c .before .before .before .before .before .before .before .before .before .before .before .before .before .next-line .ensures in
+    (record { started = cut .started; short = cut .short; searched = cut .searched; held = omega (arith, inv .0 .held, inv .1); waits = c .answer .ensures }, refl, inv .2)
 
 returns-2 : tie.Need-returns-2 Inv-loop μ-loop
 returns-2 c = search needs

@@ -8,11 +8,11 @@ use Rattle.replay.proofs.run.Statement.{statement}
 use Rattle.replay.proofs.run.Tie as tie
 
 abbrev Inv-loop : tie.InvT-loop
-Inv-loop held₀ clock₀ time₀ regs₀ pos₀ ring₀ out₀ state₀ turns₀ held clock time regs pos ring out state turns =
+Inv-loop held₀ clock₀ time₀ kept₀ keeps₀ regs₀ pos₀ ring₀ saved₀ waiting₀ count₀ out₀ state₀ turns₀ held clock time kept keeps regs pos ring saved waiting count out state turns =
     Sound state × Answered state
 
 abbrev μ-loop : tie.MeasureT-loop
-μ-loop held₀ clock₀ time₀ regs₀ pos₀ ring₀ out₀ state₀ turns₀ held clock time regs pos ring out state turns =
+μ-loop held₀ clock₀ time₀ kept₀ keeps₀ regs₀ pos₀ ring₀ saved₀ waiting₀ count₀ out₀ state₀ turns₀ held clock time kept keeps regs pos ring saved waiting count out state turns =
     turns
 
 start-requires : tie.Need-start-requires Inv-loop μ-loop

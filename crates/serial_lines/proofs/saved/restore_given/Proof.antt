@@ -1,0 +1,58 @@
+use mathlib.Core.Path.{ap}
+use native.Mathlib.Omega.{arith}
+use lib.ListN.{length-take}
+use Rattle.words.specs.Hex.{countOf}
+use borrow.Author.Needs.{needs}
+use Rattle.serial_lines.proofs.saved.restore_given.Statement.{statement}
+use Rattle.serial_lines.proofs.saved.restore_given.Tie as tie
+
+buffer-requires : tie.Need-buffer-requires
+buffer-requires c κs = search needs
+
+bytes-from-requires : tie.Need-bytes-from-requires
+bytes-from-requires c κs = search needs
+
+enum-known-count : tie.Need-enum-known-count
+enum-known-count c = search needs
+
+enum-told : tie.Need-enum-told
+enum-told c = search needs
+
+unknown-requires : tie.Need-unknown-requires
+unknown-requires c κs = search needs
+
+returns : tie.Need-returns
+returns c = search needs
+
+regs-in-requires : tie.Need-regs-in-requires
+regs-in-requires c κs = search needs
+
+array-share-prefix-bytes : tie.Need-array-share-prefix-bytes
+unfolding countOf
+array-share-prefix-bytes c = let e = ap countOf (c .before .before .before .before .before .before .count .given .1) in omega arith
+
+slice-aggregate-restore : tie.Need-slice-aggregate-restore
+unfolding countOf
+slice-aggregate-restore c = let e = ap countOf (c .before .before .before .before .before .before .before .count .given .1) in simp length-take (omega arith)
+
+restore-requires : tie.Need-restore-requires
+restore-requires c κs = search needs
+
+returns-2 : tie.Need-returns-2
+returns-2 c = search needs
+
+pub restore-given-spec : {M : Type 1} → statement M
+restore-given-spec =
+    tie.close
+    (tie.spec
+    buffer-requires
+    bytes-from-requires
+    enum-known-count
+    enum-told
+    unknown-requires
+    returns
+    regs-in-requires
+    array-share-prefix-bytes
+    slice-aggregate-restore
+    restore-requires
+    returns-2)

@@ -1,0 +1,133 @@
+// The lines that write the serial port down and bring it back.
+use crate::CAPACITY;
+use crate::Pos;
+use crate::Regs;
+use crate::Ring;
+use crate::capped;
+use crate::put_port;
+use crate::wide;
+use serial_saved::serialpost_serial_restore;
+use serial_saved::serialpost_serial_save;
+use words::Block;
+use words::decimal::put_decimal;
+use words::hex::Bytes;
+use words::hex::byte_at;
+use words::hex::bytes_from;
+use words::pattern::begins;
+use words::pattern::fits;
+use words::put::put;
+use words::put::unknown;
+ghost use Prim.Native.Nat.{_+_, _≤_};
+
+pub fn answer(
+    line: &[u8],
+    regs: &mut Regs,
+    pos: &mut Pos,
+    ring: &mut Ring,
+    saved: &mut Regs,
+    waiting: &mut Ring,
+    count: &mut u32,
+    out: &mut Block,
+    at: usize,
+) -> usize
+    requires { ⌜ at + 4096 ≤ 65536 ⌝ }
+    ensures { λ r. ⌜ r ≤ at + 4096 ⌝ }
+{
+    if fits(line, b"save") {
+        *count = serialpost_serial_save(regs, pos, ring, saved, waiting);
+        let a = put(out, at, b"save");
+        return put_port(out, a, saved, 0, capped(*count), waiting);
+    }
+    if fits(line, b"restore") {
+        return restore_kept(regs, pos, ring, saved, waiting, *count, out, at);
+    }
+    if fits(line, b"restore DD DD DD DD DD DD DD DD DD -") {
+        let given = regs_in(line);
+        return restore(regs, pos, ring, &given, b"", out, at);
+    }
+    if begins(line, b"restore DD DD DD DD DD DD DD DD DD ") {
+        return restore_given(line, regs, pos, ring, out, at);
+    }
+    unknown(out, at)
+}
+
+// `restore`, of the port that was saved last, if one was.
+fn restore_kept(
+    regs: &mut Regs,
+    pos: &mut Pos,
+    ring: &mut Ring,
+    saved: &Regs,
+    waiting: &Ring,
+    count: u32,
+    out: &mut Block,
+    at: usize,
+) -> usize
+    requires { ⌜ at + 4096 ≤ 65536 ⌝ }
+    ensures { λ r. ⌜ r ≤ at + 4096 ⌝ }
+{
+    let n = wide(count);
+    if n > CAPACITY {
+        return unknown(out, at);
+    }
+    let all: &[u8] = waiting;
+    restore(regs, pos, ring, saved, &all[0..n], out, at)
+}
+
+// `restore DL DH IER IIR LCR LSR MCR MSR SCR HH..`, with one byte or more.
+fn restore_given(
+    line: &[u8],
+    regs: &mut Regs,
+    pos: &mut Pos,
+    ring: &mut Ring,
+    out: &mut Block,
+    at: usize,
+) -> usize
+    requires { ⌜ at + 4096 ≤ 65536 ⌝ }
+    ensures { λ r. ⌜ r ≤ at + 4096 ⌝ }
+{
+    let mut bytes = io::buffer();
+    let Bytes::Are(count) = bytes_from(line, 35, &mut bytes) else {
+        return unknown(out, at);
+    };
+    let given = regs_in(line);
+    restore(regs, pos, ring, &given, &bytes[..count], out, at)
+}
+
+// The nine registers of such a line, in the order in which they lie in memory.
+fn regs_in(line: &[u8]) -> [u8; 9] {
+    [
+        byte_at(line, 8),
+        byte_at(line, 14),
+        byte_at(line, 17),
+        byte_at(line, 20),
+        byte_at(line, 26),
+        byte_at(line, 23),
+        byte_at(line, 29),
+        byte_at(line, 32),
+        byte_at(line, 11),
+    ]
+}
+
+fn restore(
+    regs: &mut Regs,
+    pos: &mut Pos,
+    ring: &mut Ring,
+    saved: &Regs,
+    waiting: &[u8],
+    out: &mut Block,
+    at: usize,
+) -> usize
+    requires { ⌜ at + 4096 ≤ 65536 ⌝ }
+    ensures { λ r. ⌜ r ≤ at + 4096 ⌝ }
+{
+    let brought = serialpost_serial_restore(regs, pos, ring, saved, waiting);
+    if brought == 0x1_0000 {
+        return put(out, at, b"restore full\n");
+    }
+    let a = put(out, at, b"restore ");
+    let b = put_decimal(out, a, brought / 0x2_0000);
+    if brought % 2 == 1 {
+        return put(out, b, b" reached\n");
+    }
+    put(out, b, b" unreached\n")
+}
