@@ -24,6 +24,9 @@ pub record Lent : Type 0 where
   pub kept : List ℕ
   pub keeps : Bool
 
+abbrev pub lends : List ℕ → ℕ → List ℕ → Bool → Lent
+lends clock time kept keeps = record { clock = clock; time = time; kept = kept; keeps = keeps }
+
 -- ---- What a line asks for
 
 -- OOOO and BBBBBBBB, of `r OOOO BBBBBBBB` and `w OOOO BBBBBBBB`.
@@ -148,7 +151,7 @@ pub record Brought (saved words′ out : List ℕ) (at : ℕ) (out′ : List ℕ
   pub said : Puts out at (restoreSays reached) out′ r
   pub words : words′ ≡ saved
 
--- A line was answered.
+-- What a line asks for was answered.
 pub record Answers (asked : Asks) (lent : Lent) (out : List ℕ) (at : ℕ) (lent′ : Lent) (out′ : List ℕ) (r : ℕ) : Type 0 where
   pub reached : Bool
   pub tells : Tells asked reached
@@ -158,3 +161,7 @@ pub record Answers (asked : Asks) (lent : Lent) (out : List ℕ) (at : ℕ) (len
   pub kept : lent′ .kept ≡ cond (isSave asked) (lent .clock) (lent .kept)
   pub keeps : lent′ .keeps ≡ (isSave asked || lent .keeps)
   pub short : r ≤ at + 4096
+
+-- A line was answered, given what it asks for.
+abbrev pub AnswersLine : (Lent → List ℕ → Asks) → List ℕ → Lent → List ℕ → ℕ → Lent → List ℕ → ℕ → Type 0
+AnswersLine asking line lent out at lent′ out′ r = Answers (asking lent line) lent out at lent′ out′ r

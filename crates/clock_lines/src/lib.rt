@@ -24,7 +24,7 @@ ghost use Rattle.clock.specs.Layout.{clockOf};
 ghost use Rattle.words.specs.Hex.{wordDigits};
 ghost use Rattle.words.specs.Put.{Puts};
 ghost use Rattle.words.specs.Text.{text};
-ghost use Rattle.clock_lines.specs.Answers.{Answers, Wrote, asks, offsetIn, bytesIn, fourDigits, readSays, stateSays};
+ghost use Rattle.clock_lines.specs.Answers.{AnswersLine, Wrote, lends, asks, offsetIn, bytesIn, fourDigits, readSays, stateSays};
 
 // The clock's state, which the caller lends.
 pub type Clock = [u32; 6];
@@ -48,7 +48,7 @@ pub fn answer(
     at: usize,
 ) -> usize
     requires { ⌜ at + 4096 ≤ 65536 ⌝ }
-    ensures { λ r. ⌜ Answers (asks (record { clock = now (clock .entry); time = now (time .entry); kept = now (kept .entry); keeps = now (keeps .entry) }) (now (line .entry))) (record { clock = now (clock .entry); time = now (time .entry); kept = now (kept .entry); keeps = now (keeps .entry) }) (now (out .entry)) at (record { clock = now (clock .exit); time = now (time .exit); kept = now (kept .exit); keeps = now (keeps .exit) }) (now (out .exit)) r ⌝ }
+    ensures { λ r. ⌜ AnswersLine asks (now (line .entry)) (lends (now (clock .entry)) (now (time .entry)) (now (kept .entry)) (now (keeps .entry))) (now (out .entry)) at (lends (now (clock .exit)) (now (time .exit)) (now (kept .exit)) (now (keeps .exit))) (now (out .exit)) r ⌝ }
 {
     if fits(line, b"r OOOO BBBBBBBB") {
         return read(clock, offset_in(line), *time, bytes_in(line), out, at);

@@ -13,7 +13,7 @@ ghost use mathlib.Core.Path.{_≡_};
 ghost use mathlib.Core.Bool.{true};
 ghost use Rattle.words.specs.Put.{Puts};
 ghost use Rattle.words.specs.Text.{text};
-ghost use Rattle.clock_lines.specs.Answers.{Answers, Brought, asksSaved, stateSays, wordAt, wordsIn};
+ghost use Rattle.clock_lines.specs.Answers.{AnswersLine, Brought, lends, asksSaved, stateSays, wordAt, wordsIn};
 
 // No line here tells or changes the time.
 pub fn answer(
@@ -25,7 +25,7 @@ pub fn answer(
     at: usize,
 ) -> usize
     requires { ⌜ at + 4096 ≤ 65536 ⌝ }
-    ensures { λ r. ⌜ ((time : ℕ) → Answers (asksSaved (record { clock = now (clock .entry); time = time; kept = now (kept .entry); keeps = now (keeps .entry) }) (now (line .entry))) (record { clock = now (clock .entry); time = time; kept = now (kept .entry); keeps = now (keeps .entry) }) (now (out .entry)) at (record { clock = now (clock .exit); time = time; kept = now (kept .exit); keeps = now (keeps .exit) }) (now (out .exit)) r) ⌝ }
+    ensures { λ r. ⌜ ((time : ℕ) → AnswersLine asksSaved (now (line .entry)) (lends (now (clock .entry)) time (now (kept .entry)) (now (keeps .entry))) (now (out .entry)) at (lends (now (clock .exit)) time (now (kept .exit)) (now (keeps .exit))) (now (out .exit)) r) ⌝ }
     ensures { λ r. ⌜ r ≤ at + 4096 ⌝ }
 {
     if fits(line, b"save") {
