@@ -40,6 +40,11 @@ impl<D: Devices> Driver<D> {
         &self.current
     }
 
+    /// Forgets what was saved. No list asks for this: it is for faults.
+    pub(crate) fn forget(&mut self) {
+        self.kept = Kept::default();
+    }
+
     /// Answers a line that is not to be passed over.
     pub fn answer(&mut self, line: &[u8]) -> Answer {
         match format::parse(line) {

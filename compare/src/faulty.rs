@@ -1,10 +1,11 @@
 //! The account with one fault planted in it, to see that the judge finds it. Each device here is the
-//! account's, corrected for the worse before or after the call.
+//! account's, corrected for the worse before or after the call; and so is what drives them.
 
 use crate::account::serial::{Register, LSR_DATA_READY, RECEIVED_DATA, SIZE};
 use crate::account::{self, clock::cut, reached, Account};
 use crate::devices::{self, ClockState, Devices, Raised, Restored, SerialState};
-use crate::format::Device;
+use crate::driver::Driver;
+use crate::format::{self, asking_lines, Device, Operation};
 
 #[derive(Clone, Copy, Debug, PartialEq, Eq)]
 pub enum Fault {
@@ -34,6 +35,8 @@ pub enum Fault {
     ResetsOnFf,
     ResetsOnDataPort,
     ReadsUpperCase,
+    FreshForgetsKept,
+    MadeUpIsKept,
 }
 use Fault::*;
 
@@ -41,10 +44,10 @@ const SERIAL: Option<Device> = Some(Device::Serial);
 const CLOCK: Option<Device> = Some(Device::Clock);
 const I8042: Option<Device> = Some(Device::I8042);
 
-/// Each fault with the device it is in (or none, if it is in the reading of lines), the name it is asked
-/// for by, and what is wrong.
+/// Each fault with the device it is in (or none, if it is in what reads lines and drives the devices), the
+/// name it is asked for by, and what is wrong.
 #[rustfmt::skip]
-pub const FAULTS: [(Fault, Option<Device>, &str, &str); 26] = [
+pub const FAULTS: [(Fault, Option<Device>, &str, &str); 28] = [
     (AcceptsByte65, SERIAL, "accepts-byte-65", "in loopback a full buffer accepts one more byte"),
     (DataReadyStays, SERIAL, "data-ready-stays", "LSR says that data is ready after the last byte was read"),
     (DataReadyGoesEarly, SERIAL, "data-ready-goes-early", "LSR says that no data is ready while bytes wait"),
@@ -71,15 +74,37 @@ pub const FAULTS: [(Fault, Option<Device>, &str, &str); 26] = [
     (ResetsOnFf, I8042, "resets-on-ff", "0xff at offset 4 resets the machine too"),
     (ResetsOnDataPort, I8042, "resets-on-data-port", "0xfe at offset 0 resets the machine too"),
     (ReadsUpperCase, None, "reads-upper-case", "letters of a line may be upper-case"),
+    (FreshForgetsKept, None, "fresh-forgets-kept", "a fresh device forgets what was saved"),
+    (MadeUpIsKept, None, "made-up-is-kept", "a state that a line gives is kept, too"),
 ];
 
-pub struct Faulty {
+/// Answers a whole list with a fault in it.
+pub fn answers(fault: Fault, mut list: Vec<u8>) -> Vec<u8> {
+    if fault == ReadsUpperCase {
+        list.make_ascii_lowercase();
+    }
+    let mut driver = Driver::new(Faulty::new(fault));
+    let mut answers = Vec::new();
+    for line in asking_lines(&list) {
+        driver.answer(line).print(&mut answers);
+        match (fault, format::parse(line)) {
+            (FreshForgetsKept, Some(Operation::Start(_))) => driver.forget(),
+            (MadeUpIsKept, Some(Operation::RestoreSerial(_) | Operation::RestoreClock(_))) => {
+                driver.perform(&Operation::Save);
+            }
+            _ => {}
+        }
+    }
+    answers
+}
+
+struct Faulty {
     fault: Fault,
     ports_made: u32,
 }
 
 impl Faulty {
-    pub fn new(fault: Fault) -> Self {
+    fn new(fault: Fault) -> Self {
         Faulty {
             fault,
             ports_made: 0,
@@ -113,7 +138,7 @@ impl Devices for Faulty {
     }
 }
 
-pub struct Serial {
+struct Serial {
     port: account::serial::Serial,
     fault: Fault,
 }
@@ -227,7 +252,7 @@ fn with_buffer(state: &SerialState, buffer: &[u8]) -> SerialState {
     }
 }
 
-pub struct Clock {
+struct Clock {
     clock: account::clock::Clock,
     fault: Fault,
 }
@@ -276,7 +301,7 @@ impl devices::Clock for Clock {
     }
 }
 
-pub struct I8042 {
+struct I8042 {
     fault: Fault,
 }
 

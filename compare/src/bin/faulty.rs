@@ -1,11 +1,10 @@
 //! Answers a list by the account with a fault planted in it. Its only use is to test the judge.
 
-use std::io::{self, Read};
+use std::io::{self, Read, Write};
 use std::process::ExitCode;
 
 use judge::command_line::{arguments, finish, Trouble};
-use judge::driver::serve;
-use judge::faulty::{Fault, Faulty, FAULTS};
+use judge::faulty::{answers, FAULTS};
 
 fn usage() -> Trouble {
     let mut usage = "usage: faulty FAULT < LIST > ANSWERS, where FAULT is one of".to_string();
@@ -23,10 +22,7 @@ fn run() -> Result<ExitCode, Trouble> {
         .ok_or_else(usage)?;
     let mut list = Vec::new();
     io::stdin().lock().read_to_end(&mut list)?;
-    if fault == Fault::ReadsUpperCase {
-        list.make_ascii_lowercase();
-    }
-    serve(Faulty::new(fault), &list[..], io::stdout().lock())?;
+    io::stdout().lock().write_all(&answers(fault, list))?;
     Ok(ExitCode::SUCCESS)
 }
 
