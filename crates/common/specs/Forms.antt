@@ -1,0 +1,15 @@
+-- Why a form is refused, and the word that says so.
+use Prim.Native.Nat.{ℕ, _+_}
+
+pub data Reason : Type 0 where
+  tooShort trailing version tooMany offset : Reason
+
+abbrev pub reasonNumber : Reason → ℕ
+reasonNumber tooShort = 1
+reasonNumber trailing = 2
+reasonNumber version = 3
+reasonNumber tooMany = 4
+reasonNumber offset = 5
+
+abbrev pub refusalWord : Reason → ℕ
+refusalWord r = 0x1_0000 + reasonNumber r
