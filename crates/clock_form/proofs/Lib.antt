@@ -1,0 +1,6 @@
+pub mod Offsets
+pub mod Numbers
+pub mod Reading
+pub mod Answers
+pub mod RoundTrip
+pub mod Reached
