@@ -1,0 +1,44 @@
+-- Assumes nothing.
+use Rattle.serial_form.proofs.Answers.{writes}
+use borrow.Author.Needs.{needs}
+use Rattle.serial_form.proofs.write.Statement.{statement}
+use Rattle.serial_form.proofs.write.Tie as tie
+
+nine-requires : tie.Need-nine-requires
+nine-requires c κs = search needs
+
+put-number-requires : tie.Need-put-number-requires
+put-number-requires c κs = search needs
+
+put-requires : tie.Need-put-requires
+put-requires c κs = search needs
+
+put-number-requires-2 : tie.Need-put-number-requires-2
+put-number-requires-2 c κs = search needs
+
+put-requires-2 : tie.Need-put-requires-2
+put-requires-2 c κs = search needs
+
+same-length : tie.Need-same-length
+same-length c = search needs
+
+returns : tie.Need-returns
+returns c =
+    let fourth = c .before .before in
+    let third = fourth .before .before .before .before in
+    let second = third .before .before .before .before in
+    let first = second .before .before .before .before .before in
+    writes _ _ _ (first .before .before .nine .ensures) (first .put-number .ensures) (second .put .ensures) (third .put-number2 .ensures)
+    (fourth .put2 .ensures)
+
+pub write-spec : {M : Type 1} → statement M
+write-spec =
+    tie.close
+    (tie.spec
+    nine-requires
+    put-number-requires
+    put-requires
+    put-number-requires-2
+    put-requires-2
+    same-length
+    returns)

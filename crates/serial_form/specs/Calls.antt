@@ -1,0 +1,44 @@
+-- What the calls promise: the answer, and the lent memory after it.
+use Prim.Native.Nat.{ℕ}
+use mathlib.Core.Path.{_≡_}
+use mathlib.Core.Bool.{Bool, cond, _&&_}
+use mathlib.Core.List.{List, _++_}
+use lib.ListN.{length, drop}
+use lib.Dec.{leb}
+use Rattle.common.specs.Forms.{tooMany, refusalWord}
+use Rattle.serial_form.specs.Form.{Read, refused, reads, capacity, formOf}
+
+-- The first bytes are these, the others stay.
+abbrev pub written : List ℕ → List ℕ → List ℕ
+written bytes memory = bytes ++ drop (length bytes) memory
+
+-- ---- Writing: how long the form is. It is written where there is room for it. More bytes than may wait are refused.
+
+abbrev pub mayWait : List ℕ → Bool
+mayWait waiting = leb (length waiting) capacity
+
+abbrev pub hasRoom : List ℕ → List ℕ → Bool
+hasRoom bytes memory = leb (length bytes) (length memory)
+
+pub record Encodes (saved waiting form form′ : List ℕ) (r : ℕ) : Type 0 where
+  pub answer : r ≡ cond (mayWait waiting) (length (formOf saved waiting)) (refusalWord tooMany)
+  pub memory : form′ ≡ cond (mayWait waiting && hasRoom (formOf saved waiting) form) (written (formOf saved waiting) form) form
+
+-- ---- Reading: how many bytes wait, or why the form is refused. A refusal leaves all bytes as they were.
+
+abbrev pub answerOf : Read → ℕ
+answerOf (refused reason) = refusalWord reason
+answerOf (reads registers waiting) = length waiting
+
+abbrev pub savedAfter : Read → List ℕ → List ℕ
+savedAfter (refused reason) saved = saved
+savedAfter (reads registers waiting) saved = registers
+
+abbrev pub waitingAfter : Read → List ℕ → List ℕ
+waitingAfter (refused reason) memory = memory
+waitingAfter (reads registers waiting) memory = written waiting memory
+
+pub record Decodes (o : Read) (saved waiting saved′ waiting′ : List ℕ) (r : ℕ) : Type 0 where
+  pub answer : r ≡ answerOf o
+  pub registers : saved′ ≡ savedAfter o saved
+  pub bytes : waiting′ ≡ waitingAfter o waiting

@@ -1,0 +1,187 @@
+// A saved serial port, its registers and its waiting bytes, as a form of bytes, and back. Nothing of the caller's is trusted: any bytes are read or
+// refused, and a refusal changes nothing.
+ghost use mathlib.Core.Path.{_≡_};
+ghost use mathlib.Core.List.{[], _∷_};
+ghost use Prim.Native.Nat.{_+_, _≤_};
+ghost use lib.ListN.{length};
+ghost use lib.Seq.{sets};
+ghost use Rattle.common.specs.Bytes.{bytesOf, valueOf};
+ghost use Rattle.serial_form.specs.Form.{capacity, formOf, readForm, readVersion1, readVersion2, readBehind};
+ghost use Rattle.serial_form.specs.Calls.{Encodes, Decodes};
+
+// The version that is written.
+const CURRENT: usize = 2;
+
+// How many bytes may wait.
+const CAPACITY: usize = 64;
+
+// ---- Where the parts of a form begin
+
+const REGISTERS: usize = 2;
+
+const COUNT: usize = 11;
+
+const WAITING: usize = 13;
+
+// ---- The answers that refuse a form
+
+const TOO_SHORT: u32 = 0x1_0001;
+
+const TRAILING: u32 = 0x1_0002;
+
+const VERSION: u32 = 0x1_0003;
+
+const TOO_MANY: u32 = 0x1_0004;
+
+// ---- Arrays are as long as their types say: calls that tell a proof so, and compile to nothing
+
+fn nine(x: &[u8; 9])
+    ensures { λ r. ⌜ length (now (x .entry)) ≡ 9 ⌝ }
+{
+    let all: &[u8] = x;
+}
+
+fn whole(x: &[u8; 64])
+    ensures { λ r. ⌜ length (now (x .entry)) ≡ capacity ⌝ }
+{
+    let all: &[u8] = x;
+}
+
+// ---- Bytes and numbers
+
+// Puts bytes in place of those that lie from `at` on.
+fn put(memory: &mut [u8], at: usize, bytes: &[u8])
+    requires { ⌜ at + length (now bytes) ≤ length (now memory) ⌝ }
+    ensures { λ r. ⌜ now (memory .exit) ≡ sets (now (memory .entry)) at (now (bytes .entry)) ⌝ }
+{
+    let n = bytes.len();
+    let mut i: usize = 0;
+    while i < n {
+        memory[at + i] = bytes[i];
+        i += 1;
+    }
+}
+
+// A number has two bytes, lowest first.
+fn put_number(memory: &mut [u8], at: usize, n: usize)
+    requires { ⌜ at + 2 ≤ length (now memory) ⌝ }
+    ensures { λ r. ⌜ now (memory .exit) ≡ sets (now (memory .entry)) at (bytesOf 2 n) ⌝ }
+{
+    memory[at] = (n % 256) as u8;
+    memory[at + 1] = (n / 256 % 256) as u8;
+}
+
+fn number(low: u8, high: u8) -> usize
+    ensures { λ r. ⌜ r ≡ valueOf (low ∷ high ∷ []) ⌝ }
+{
+    (low as usize) + 256 * (high as usize)
+}
+
+// ---- Writing
+
+// Writes the form; there is room for it.
+fn write(saved: &[u8; 9], waiting: &[u8], form: &mut [u8])
+    requires { ⌜ 13 + length (now waiting) ≤ length (now form) ⌝ }
+    ensures { λ r. ⌜ now (form .exit) ≡ sets (now (form .entry)) 0 (formOf (now (saved .entry)) (now (waiting .entry))) ⌝ }
+{
+    nine(saved);
+    put_number(form, 0, CURRENT);
+    put(form, REGISTERS, saved);
+    put_number(form, COUNT, waiting.len());
+    put(form, WAITING, waiting);
+}
+
+// Answers how many bytes the form has, and writes it if there is room for them. More bytes than may wait are refused.
+#[no_mangle]
+pub extern "C" fn serialpost_serial_encode(saved: &[u8; 9], waiting: &[u8], form: &mut [u8]) -> u32
+    ensures { λ r. ⌜ Encodes (now (saved .entry)) (now (waiting .entry)) (now (form .entry)) (now (form .exit)) r ⌝ }
+{
+    nine(saved);
+    let n = waiting.len();
+    if CAPACITY < n {
+        return TOO_MANY;
+    }
+    let len = WAITING + n;
+    if form.len() < len {
+        return len as u32;
+    }
+    write(saved, waiting, form);
+    len as u32
+}
+
+// ---- Reading
+
+// Behind a fixed part of that many bytes n bytes wait.
+fn decode_behind(
+    fixed: usize,
+    n: usize,
+    form: &[u8],
+    saved: &mut [u8; 9],
+    waiting: &mut [u8; 64],
+) -> u32
+    requires { ⌜ (11 ≤ fixed) × (fixed ≤ 13) ⌝ }
+    ensures { λ r. ⌜ Decodes (readBehind fixed n (now (form .entry))) (now (saved .entry)) (now (waiting .entry)) (now (saved .exit)) (now (waiting .exit)) r ⌝ }
+{
+    if CAPACITY < n {
+        return TOO_MANY;
+    }
+    let end = fixed + n;
+    if form.len() < end {
+        return TOO_SHORT;
+    }
+    if end < form.len() {
+        return TRAILING;
+    }
+    nine(saved);
+    whole(waiting);
+    put(saved, 0, &form[REGISTERS..COUNT]);
+    put(waiting, 0, &form[fixed..]);
+    n as u32
+}
+
+// Version 1 ends where version 2 says how many bytes wait.
+fn decode_version_1(form: &[u8], saved: &mut [u8; 9], waiting: &mut [u8; 64]) -> u32
+    ensures { λ r. ⌜ Decodes (readVersion1 (now (form .entry))) (now (saved .entry)) (now (waiting .entry)) (now (saved .exit)) (now (waiting .exit)) r ⌝ }
+{
+    decode_behind(COUNT, 0, form, saved, waiting)
+}
+
+fn decode_version_2(form: &[u8], saved: &mut [u8; 9], waiting: &mut [u8; 64]) -> u32
+    ensures { λ r. ⌜ Decodes (readVersion2 (now (form .entry))) (now (saved .entry)) (now (waiting .entry)) (now (saved .exit)) (now (waiting .exit)) r ⌝ }
+{
+    if form.len() < WAITING {
+        return TOO_SHORT;
+    }
+    decode_behind(
+        WAITING,
+        number(form[COUNT], form[COUNT + 1]),
+        form,
+        saved,
+        waiting,
+    )
+}
+
+// Answers how many bytes wait, or why the form is refused; then nothing is written.
+#[no_mangle]
+pub extern "C" fn serialpost_serial_decode(
+    form: &[u8],
+    saved: &mut [u8; 9],
+    waiting: &mut [u8; 64],
+) -> u32
+    ensures { λ r. ⌜ Decodes (readForm (now (form .entry))) (now (saved .entry)) (now (waiting .entry)) (now (saved .exit)) (now (waiting .exit)) r ⌝ }
+{
+    if form.len() < REGISTERS {
+        return TOO_SHORT;
+    }
+    match number(form[0], form[1]) {
+        1 => {
+            return decode_version_1(form, saved, waiting);
+        }
+        2 => {
+            return decode_version_2(form, saved, waiting);
+        }
+        _ => {
+            return VERSION;
+        }
+    }
+}
