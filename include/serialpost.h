@@ -25,6 +25,16 @@
 extern "C" {
 #endif
 
+/* ---- Why a form is refused: where several of these are true, docs/STATE-FORMAT.md says which is answered. */
+
+enum serialpost_reason {
+    SERIALPOST_TOO_SHORT = 0x10001, /* the form ends too early */
+    SERIALPOST_TRAILING = 0x10002,  /* bytes follow it */
+    SERIALPOST_VERSION = 0x10003,   /* its version is not known */
+    SERIALPOST_TOO_MANY = 0x10004,  /* more bytes wait than a port has room for */
+    SERIALPOST_OFFSET = 0x10005     /* a clock is 2^32 seconds or more ahead, or more than 2^32 behind */
+};
+
 /* ---- Serial port: a 16550 with 64 bytes of input. */
 
 #define SERIALPOST_SERIAL_CAPACITY 64
@@ -103,6 +113,19 @@ uint32_t serialpost_serial_save(const uint8_t regs[9], const uint32_t pos[2], co
 uint32_t serialpost_serial_restore(uint8_t regs[9], uint32_t pos[2], uint8_t ring[64], const uint8_t saved[9],
                                    const uint8_t *waiting, size_t length);
 
+/* The form of a written-down port has so many bytes at most. */
+#define SERIALPOST_SERIAL_FORM_MOST 77
+
+/* Puts a written-down port into bytes, in the form that docs/STATE-FORMAT.md tells. Answers how many bytes the form
+ * has, 13 and one for each that waits, and writes it into the first bytes of `form`, whose others stay. Where `form`
+ * is shorter nothing is written, and the answer is the same. Refused: more than 64 waiting bytes. */
+uint32_t serialpost_serial_encode(const uint8_t saved[9], const uint8_t *waiting, size_t waiting_length, uint8_t *form,
+                                  size_t form_length);
+
+/* Reads a form. Answers how many bytes wait, and puts the registers into `saved` and these bytes into the first of
+ * `waiting`, whose others stay. Bytes that are no form are refused with a reason, and `saved` and `waiting` stay. */
+uint32_t serialpost_serial_decode(const uint8_t *form, size_t length, uint8_t saved[9], uint8_t waiting[64]);
+
 /* The answer to a read or a write, taken apart. */
 #define SERIALPOST_REPLY(answer) ((uint8_t)((answer) & 0xff))
 #define SERIALPOST_SENDS(answer) (((answer) & 0x100) != 0)
@@ -114,7 +137,7 @@ uint32_t serialpost_serial_restore(uint8_t regs[9], uint32_t pos[2], uint8_t rin
 #define SERIALPOST_FULL(answer) (((answer) & 0x10000) != 0)
 #define SERIALPOST_INPUT_RAISES(answer) ((uint32_t)(answer) >> 17)
 
-/* The answer to bringing a port back, taken apart. */
+/* The answer to bringing a port back, taken apart. The first is also for what answers a number or a reason. */
 #define SERIALPOST_REFUSED(answer) (((answer) & 0x10000) != 0)
 #define SERIALPOST_RESTORE_RAISES(answer) ((uint32_t)(answer) >> 17)
 #define SERIALPOST_REACHED(answer) (((answer) & 1) != 0)
@@ -160,6 +183,18 @@ void serialpost_clock_save(const struct serialpost_clock *clock, struct serialpo
 /* Brings a clock back into any memory. Answers whether a run from a fresh clock could have come to this state. One
  * that no run comes to is brought back all the same. Refuses nothing. */
 bool serialpost_clock_restore(struct serialpost_clock *clock, const struct serialpost_clock *saved);
+
+/* The form of a written-down clock has so many bytes. */
+#define SERIALPOST_CLOCK_FORM_SIZE 26
+
+/* Puts a written-down clock into bytes, in the form that docs/STATE-FORMAT.md tells. Answers 26, as many bytes as the
+ * form has, and writes it into the first of `form`, whose others stay. Where `form` is shorter nothing is written, and
+ * the answer is the same. Refused, with the reason: an offset outside -2^32 <= offset < 2^32. */
+uint32_t serialpost_clock_encode(const struct serialpost_clock *saved, uint8_t *form, size_t length);
+
+/* Reads a form. Answers 0 and puts the clock into `saved`. Bytes that are no form are refused with a reason, and
+ * `saved` stays. */
+uint32_t serialpost_clock_decode(const uint8_t *form, size_t length, struct serialpost_clock *saved);
 
 /* ---- Reset controller: of an i8042, the command that resets the machine. It has no state. */
 
