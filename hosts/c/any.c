@@ -3,56 +3,11 @@
  * may not be touched, behind it in a first round and before it in a second, so that one byte too many, read or written,
  * ends the program.
  */
-#define _DEFAULT_SOURCE
-#include "expect.h"
+#include "any.h"
 #include <serialpost.h>
 #include <string.h>
-#include <sys/mman.h>
-#include <unistd.h>
 
 #define ROUNDS 200000
-
-static uint64_t seed = 1;
-
-static uint32_t any(void)
-{
-    seed += 0x9e3779b97f4a7c15;
-    uint64_t mixed = (seed ^ (seed >> 32)) * 0xd6e8feb86659fd93;
-    return (uint32_t)((mixed ^ (mixed >> 32)) >> 8);
-}
-
-static bool once_in(uint32_t times)
-{
-    return any() % times == 0;
-}
-
-static void any_bytes(void *memory, size_t size)
-{
-    for (size_t i = 0; i < size; i++)
-        ((uint8_t *)memory)[i] = (uint8_t)any();
-}
-
-/* ---- Memory between two forbidden pages, at the end of its own or at its start */
-
-struct fenced {
-    uint8_t *page;
-    size_t page_size;
-    bool at_end;
-};
-
-static struct fenced fence(bool at_end)
-{
-    size_t size = (size_t)sysconf(_SC_PAGESIZE);
-    uint8_t *pages = mmap(NULL, 3 * size, PROT_NONE, MAP_PRIVATE | MAP_ANONYMOUS, -1, 0);
-    EXPECT(pages != MAP_FAILED && mprotect(pages + size, size, PROT_READ | PROT_WRITE) == 0);
-    return (struct fenced){ pages + size, size, at_end };
-}
-
-/* The `size` bytes of it that lie against the fence. */
-static void *lent(struct fenced memory, size_t size)
-{
-    return memory.at_end ? memory.page + memory.page_size - size : memory.page;
-}
 
 /* ---- The serial port */
 

@@ -192,6 +192,28 @@ static void a_65th_byte_is_refused_and_nothing_changes(void)
     EXPECT(!SERIALPOST_REFUSED(serialpost_serial_restore(SERIALPOST_PARTS(&port), regs, many, 64)));
 }
 
+static void a_port_is_kept_as_bytes(void)
+{
+    struct serialpost_serial port = fresh_port();
+    write_at(&port, SERIALPOST_IER, 0x01);
+    type_in(&port, "ls\n", 3);
+    struct serialpost_serial_saved saved = saved_from(&port), again;
+    uint8_t form[SERIALPOST_SERIAL_FORM_MOST];
+    uint32_t length = serialpost_serial_encode(saved.regs, saved.waiting, saved.count, form, sizeof form);
+    static const uint8_t expected[] = { 2, 0, 0x0c, 1, 4, 3, 8, 0x61, 0xb0, 0, 0, 3, 0, 'l', 's', '\n' };
+    EXPECT(length == sizeof expected && memcmp(form, expected, length) == 0);
+
+    again.count = serialpost_serial_decode(form, length, again.regs, again.waiting);
+    EXPECT(!SERIALPOST_REFUSED(again.count) && again.count == 3);
+    EXPECT(memcmp(again.regs, saved.regs, 9) == 0 && memcmp(again.waiting, "ls\n", 3) == 0);
+    EXPECT(serialpost_serial_decode(form, length - 1, again.regs, again.waiting) == SERIALPOST_TOO_SHORT);
+
+    saved.count = SERIALPOST_SERIAL_CAPACITY;
+    EXPECT(serialpost_serial_encode(saved.regs, saved.waiting, saved.count, form, sizeof form) == sizeof form);
+    uint8_t many[SERIALPOST_SERIAL_CAPACITY + 1] = { 0 };
+    EXPECT(serialpost_serial_encode(saved.regs, many, sizeof many, form, sizeof form) == SERIALPOST_TOO_MANY);
+}
+
 /* ---- The clock and the reset controller */
 
 static uint32_t clock_at(const struct serialpost_clock *clock, uint16_t offset, uint64_t time)
@@ -285,6 +307,19 @@ static void a_clock_that_no_run_comes_to_is_brought_back_and_told(void)
     }
 }
 
+static void a_clock_is_kept_as_bytes(void)
+{
+    struct serialpost_clock clock = { 5, 77, 1, 0, (uint32_t)-995, UINT32_MAX }, again;
+    uint8_t form[SERIALPOST_CLOCK_FORM_SIZE];
+    EXPECT(serialpost_clock_encode(&clock, form, sizeof form) == sizeof form);
+    EXPECT(form[0] == 1 && form[1] == 0 && form[2] == 5 && form[6] == 77 && form[18] == 0x1d && form[19] == 0xfc);
+    EXPECT(serialpost_clock_decode(form, sizeof form, &again) == 0 && memcmp(&again, &clock, sizeof clock) == 0);
+    form[0] = 2;
+    EXPECT(serialpost_clock_decode(form, sizeof form, &again) == SERIALPOST_VERSION);
+    clock.offset_high = 1;
+    EXPECT(serialpost_clock_encode(&clock, form, sizeof form) == SERIALPOST_OFFSET && form[0] == 2);
+}
+
 static void one_write_resets(void)
 {
     for (unsigned offset = 0; offset < 256; offset++)
@@ -306,11 +341,13 @@ int main(void)
     what_is_enabled_and_marked_is_raised_again();
     a_state_that_no_run_comes_to_is_brought_back_and_told();
     a_65th_byte_is_refused_and_nothing_changes();
+    a_port_is_kept_as_bytes();
     a_clock_runs();
     a_clock_names_its_words();
     a_clock_refuses();
     a_clock_moves_to_another_host();
     a_clock_that_no_run_comes_to_is_brought_back_and_told();
+    a_clock_is_kept_as_bytes();
     one_write_resets();
     return 0;
 }

@@ -1,0 +1,225 @@
+/*
+ * Forms of states: true ones, damaged ones, and bytes of any kind. Each is read by the library and by a reader of our
+ * own: both must give the same state or the same reason, and where the library refuses, what it was to write must be
+ * untouched. A form and what is read from it lie in heap blocks of exactly their sizes, for valgrind, and then against
+ * pages that may not be touched.
+ *
+ *   forms [COUNT [SEED]]
+ */
+#include "any.h"
+#include "forms.h"
+
+#define LONGEST 100
+#define REASONS 6
+
+/* A written-down device; a port's waiting bytes may be more than there is room for. */
+struct state {
+    struct serialpost_clock saved; /* the larger of the two devices' */
+    uint8_t waiting[68];
+};
+
+/* ---- Where a form and a written-down device lie */
+
+struct place {
+    uint8_t *form, *waiting;
+    void *saved;
+};
+
+static void *block(size_t size)
+{
+    void *memory = malloc(size);
+    EXPECT(memory != NULL);
+    return memory;
+}
+
+static struct place in_blocks(const struct device *device, size_t form, size_t waiting)
+{
+    return (struct place){ block(form), block(waiting), block(device->saved_size) };
+}
+
+static void free_blocks(struct place place)
+{
+    free(place.form);
+    free(place.waiting);
+    free(place.saved);
+}
+
+static struct place at_fences(const struct device *device, size_t form, size_t waiting, bool at_end)
+{
+    static struct fenced fences[2][3];
+    struct fenced *own = fences[at_end];
+    if (own[0].page == NULL)
+        for (int i = 0; i < 3; i++)
+            own[i] = fence(at_end);
+    return (struct place){ lent(own[0], form), lent(own[1], waiting), lent(own[2], device->saved_size) };
+}
+
+/* ---- Reading */
+
+/* What the library makes of a form there. It must be what our own reader makes of it. */
+static uint32_t read_in(struct place place, const struct device *device, const uint8_t *form, size_t length)
+{
+    struct state own;
+    memcpy(place.form, form, length);
+    any_bytes(place.saved, device->saved_size);
+    any_bytes(place.waiting, 64);
+    memcpy(&own.saved, place.saved, device->saved_size);
+    memcpy(own.waiting, place.waiting, 64);
+
+    uint32_t answer = device->read(place.form, length, place.saved, place.waiting);
+    EXPECT(answer == device->own_reader(form, length, &own.saved, own.waiting));
+    EXPECT(memcmp(place.saved, &own.saved, device->saved_size) == 0);
+    EXPECT(memcmp(place.waiting, own.waiting, 64) == 0);
+    EXPECT(memcmp(place.form, form, length) == 0);
+    return answer;
+}
+
+/* What was read is written again: the same bytes, if they were of the current version. */
+static void write_again(struct place place, const struct device *device, const uint8_t *form, size_t length, uint32_t count)
+{
+    uint8_t again[LONGEST];
+    uint32_t written = device->write(place.saved, place.waiting, count, again, sizeof again);
+    EXPECT(!SERIALPOST_REFUSED(written) && written <= sizeof again);
+    bool same = written == length && memcmp(again, form, length) == 0;
+    EXPECT(same == (form[0] == device->current_version));
+}
+
+static uint32_t read_everywhere(const struct device *device, const uint8_t *form, size_t length)
+{
+    struct place blocks = in_blocks(device, length, 64);
+    uint32_t answer = read_in(blocks, device, form, length);
+    if (!SERIALPOST_REFUSED(answer))
+        write_again(blocks, device, form, length, answer);
+    free_blocks(blocks);
+    for (int at_end = 0; at_end < 2; at_end++)
+        EXPECT(read_in(at_fences(device, length, 64, at_end), device, form, length) == answer);
+    return answer;
+}
+
+/* ---- Writing */
+
+/* Any state. A clock's offset often lies at an end of what a form can hold. */
+static struct state any_state(const struct device *device)
+{
+    struct state state;
+    any_bytes(&state, sizeof state);
+    if (device == &a_clock && !once_in(8)) {
+        static const uint32_t ends[] = { 0, UINT32_MAX }, beyond[] = { 1, UINT32_MAX - 1 };
+        if (once_in(2))
+            state.saved.offset_low = ends[any() % 2];
+        state.saved.offset_high = (once_in(8) ? beyond : ends)[any() % 2];
+    }
+    return state;
+}
+
+/* Writes a state into `room` bytes there. If they are enough these begin with `form`, whose length is `answer`; the
+ * others stay. */
+static void write_in(struct place place, const struct device *device, const struct state *state, size_t count, size_t room,
+                     const uint8_t *form, uint32_t answer)
+{
+    uint8_t expected[LONGEST];
+    memcpy(place.saved, &state->saved, device->saved_size);
+    memcpy(place.waiting, state->waiting, count);
+    any_bytes(place.form, room);
+    memcpy(expected, place.form, room);
+    if (answer <= room)
+        memcpy(expected, form, answer);
+    EXPECT(device->write(place.saved, place.waiting, count, place.form, room) == answer);
+    EXPECT(memcmp(place.form, expected, room) == 0);
+}
+
+/* A form of any state, by the library. Answers its length, or the reason why there is none. */
+static uint32_t true_form(const struct device *device, uint8_t form[LONGEST])
+{
+    struct state state = any_state(device);
+    size_t count = device == &serial_port ? any() % 68 : 0, room = any() % LONGEST;
+    uint32_t answer = device->write(&state.saved, state.waiting, count, form, LONGEST);
+    EXPECT(answer == device->own_size(&state.saved, count));
+
+    struct place blocks = in_blocks(device, room, count);
+    write_in(blocks, device, &state, count, room, form, answer);
+    free_blocks(blocks);
+    for (int at_end = 0; at_end < 2; at_end++)
+        write_in(at_fences(device, room, count, at_end), device, &state, count, room, form, answer);
+    return answer;
+}
+
+/* ---- Forms to be read */
+
+static size_t any_bytes_at_all(uint8_t form[LONGEST])
+{
+    size_t length = any() % (once_in(4) ? 4 : LONGEST);
+    if (!once_in(8)) {
+        form[0] = (uint8_t)(any() % 4);
+        form[1] = 0;
+    }
+    if (once_in(2))
+        form[12] = 0;
+    return length;
+}
+
+/* Version 1 of the serial port's form: its registers. */
+static size_t first_version(uint8_t form[LONGEST])
+{
+    form[0] = 1;
+    form[1] = 0;
+    return 11;
+}
+
+/* Cuts a form, lengthens it, changes one of its bytes, or a bit of a number that has limits: the version, how many
+ * bytes wait, the offset. */
+static size_t damaged(const struct device *device, uint8_t form[LONGEST], size_t length)
+{
+    size_t limited = device == &a_clock ? 22 : length > 12 ? 11 : 0;
+    switch (any() % 4) {
+    case 0:
+        return any() % (length + 1);
+    case 1:
+        return length + any() % (LONGEST - length);
+    case 2:
+        form[any() % (once_in(2) ? 2 : length)] = (uint8_t)any();
+        return length;
+    default:
+        form[limited + any() % 2] ^= (uint8_t)(1 << any() % 8);
+        return length;
+    }
+}
+
+static size_t any_form(const struct device *device, uint8_t form[LONGEST])
+{
+    any_bytes(form, LONGEST);
+    if (once_in(4))
+        return any_bytes_at_all(form);
+    uint32_t length = device == &serial_port && once_in(4) ? (uint32_t)first_version(form) : true_form(device, form);
+    if (SERIALPOST_REFUSED(length))
+        return any_bytes_at_all(form);
+    return once_in(3) ? length : damaged(device, form, length);
+}
+
+static void forms_of(const struct device *device, unsigned long count)
+{
+    unsigned long met[REASONS] = { 0 };
+    for (unsigned long i = 0; i < count; i++) {
+        uint8_t form[LONGEST];
+        size_t length = any_form(device, form);
+        uint32_t answer = read_everywhere(device, form, length);
+        met[SERIALPOST_REFUSED(answer) ? answer - 0x10000 : 0]++;
+    }
+    printf("%s: %lu states; too short %lu, trailing %lu, version %lu, too many %lu, offset %lu\n", device->name, met[0],
+           met[1], met[2], met[3], met[4], met[5]);
+    for (int reason = 0; reason < REASONS; reason++) {
+        bool none = reason == (device == &serial_port ? 5 : 4);
+        EXPECT(none ? met[reason] == 0 : met[reason] > count / 100);
+    }
+}
+
+int main(int arguments, char **argument)
+{
+    unsigned long count = arguments > 1 ? strtoul(argument[1], NULL, 10) : 100000;
+    if (arguments > 2)
+        seed = strtoul(argument[2], NULL, 10);
+    printf("%lu forms, seed %lu\n", count, (unsigned long)seed);
+    forms_of(&serial_port, count / 2);
+    forms_of(&a_clock, count / 2);
+    return 0;
+}

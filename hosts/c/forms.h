@@ -1,0 +1,130 @@
+/* For the test programs: both devices' forms, as the library reads and writes them, beside a reader of our own and what
+ * we know of writers. These are written from docs/STATE-FORMAT.md alone. */
+#ifndef FORMS_H
+#define FORMS_H
+
+#include <serialpost.h>
+#include <string.h>
+
+/* ---- Our own reader */
+
+#define REASON(number) (0x10000u + (number))
+
+static uint64_t number_at(const uint8_t *form, size_t place, size_t bytes)
+{
+    uint64_t number = 0;
+    for (size_t i = bytes; i > 0; i--)
+        number = number << 8 | form[place + i - 1];
+    return number;
+}
+
+static uint32_t own_serial_reader(const uint8_t *form, size_t length, void *saved, uint8_t *waiting)
+{
+    if (length < 2)
+        return REASON(1);
+    uint64_t version = number_at(form, 0, 2), n = 0;
+    if (version != 1 && version != 2)
+        return REASON(3);
+    if (length < (version == 1 ? 11 : 13))
+        return REASON(1);
+    if (version == 2)
+        n = number_at(form, 11, 2);
+    if (n > 64)
+        return REASON(4);
+    if (version == 2 && length < 13 + n)
+        return REASON(1);
+    if (length > (version == 1 ? 11 : 13 + n))
+        return REASON(2);
+    memcpy(saved, form + 2, 9);
+    for (uint64_t i = 0; i < n; i++)
+        waiting[i] = form[13 + i];
+    return (uint32_t)n;
+}
+
+static bool has_33_bits(int64_t offset)
+{
+    return -0x100000000 <= offset && offset < 0x100000000;
+}
+
+static uint32_t own_clock_reader(const uint8_t *form, size_t length, void *saved, uint8_t *waiting)
+{
+    (void)waiting;
+    if (length < 2)
+        return REASON(1);
+    if (number_at(form, 0, 2) != 1)
+        return REASON(3);
+    if (length < 26)
+        return REASON(1);
+    if (length > 26)
+        return REASON(2);
+    int64_t offset = (int64_t)number_at(form, 18, 8);
+    if (!has_33_bits(offset))
+        return REASON(5);
+    struct serialpost_clock *clock = saved;
+    clock->load = (uint32_t)number_at(form, 2, 4);
+    clock->match = (uint32_t)number_at(form, 6, 4);
+    clock->mask = (uint32_t)number_at(form, 10, 4);
+    clock->raw_status = (uint32_t)number_at(form, 14, 4);
+    clock->offset_low = (uint32_t)offset;
+    clock->offset_high = (uint32_t)((uint64_t)offset >> 32);
+    return 0;
+}
+
+/* What a writer answers: how many bytes the form has, or why there is none. */
+
+static uint32_t own_serial_size(const void *saved, size_t count)
+{
+    (void)saved;
+    return count > 64 ? REASON(4) : 13 + (uint32_t)count;
+}
+
+static uint32_t own_clock_size(const void *saved, size_t count)
+{
+    (void)count;
+    const struct serialpost_clock *clock = saved;
+    return has_33_bits((int64_t)((uint64_t)clock->offset_high << 32 | clock->offset_low)) ? 26 : REASON(5);
+}
+
+/* ---- The library */
+
+static uint32_t read_serial(const uint8_t *form, size_t length, void *saved, uint8_t *waiting)
+{
+    return serialpost_serial_decode(form, length, saved, waiting);
+}
+
+static uint32_t write_serial(const void *saved, const uint8_t *waiting, size_t count, uint8_t *form, size_t length)
+{
+    return serialpost_serial_encode(saved, waiting, count, form, length);
+}
+
+static uint32_t read_clock(const uint8_t *form, size_t length, void *saved, uint8_t *waiting)
+{
+    (void)waiting;
+    return serialpost_clock_decode(form, length, saved);
+}
+
+static uint32_t write_clock(const void *saved, const uint8_t *waiting, size_t count, uint8_t *form, size_t length)
+{
+    (void)waiting, (void)count;
+    return serialpost_clock_encode(saved, form, length);
+}
+
+/* A device's forms. What is saved are `saved_size` bytes and, of a serial port, those that wait. */
+struct device {
+    const char *name;
+    uint8_t current_version;
+    size_t saved_size;
+    uint32_t (*read)(const uint8_t *form, size_t length, void *saved, uint8_t *waiting);
+    uint32_t (*own_reader)(const uint8_t *form, size_t length, void *saved, uint8_t *waiting);
+    uint32_t (*write)(const void *saved, const uint8_t *waiting, size_t count, uint8_t *form, size_t length);
+    uint32_t (*own_size)(const void *saved, size_t count);
+};
+
+static const struct device serial_port = {
+    "serial", 2, 9, read_serial, own_serial_reader, write_serial, own_serial_size,
+};
+static const struct device a_clock = {
+    "clock", 1, sizeof(struct serialpost_clock), read_clock, own_clock_reader, write_clock, own_clock_size,
+};
+
+#endif

@@ -1,0 +1,99 @@
+/*
+ * Reads forms, a line for each, and answers each line with what the library makes of it:
+ *
+ *   DEVICE FORM [=> ..]     the form in hex, or - for no bytes
+ *   DEVICE FORM => ANSWER   the state in the words of docs/REPLAY.md, or the reason
+ *
+ * An empty line and a line that begins with # stay as they are, so that a file of recorded forms must come out as it
+ * is. Our own reader must give the same, and a state that was read from the current version is written again as the
+ * same bytes.
+ */
+#include "expect.h"
+#include "forms.h"
+
+#define LONGEST 200
+
+static const char *const reasons[] = { NULL, "too short", "trailing", "version", "too many", "offset" };
+
+/* Reads hex digits up to a space or the line's end. Answers how many bytes they are. */
+static size_t bytes_of(const char *digits, uint8_t bytes[LONGEST])
+{
+    size_t length = strcspn(digits, " \n"), count = 0;
+    if (length == 1 && digits[0] == '-')
+        return 0;
+    EXPECT(length > 0 && length % 2 == 0 && length <= 2 * LONGEST && strspn(digits, "0123456789abcdef") == length);
+    for (; 2 * count < length; count++) {
+        unsigned byte;
+        EXPECT(sscanf(digits + 2 * count, "%2x", &byte) == 1);
+        bytes[count] = (uint8_t)byte;
+    }
+    return count;
+}
+
+static void print_hex(const uint8_t *bytes, size_t count)
+{
+    for (size_t i = 0; i < count; i++)
+        printf("%02x", bytes[i]);
+    if (count == 0)
+        printf("-");
+}
+
+static void print_port(const uint8_t *saved, const uint8_t *waiting, uint32_t count)
+{
+    static const uint8_t order[] = { 0, 8, SERIALPOST_IER, SERIALPOST_IIR, SERIALPOST_LCR,
+                                     SERIALPOST_LSR, SERIALPOST_MCR, SERIALPOST_MSR, SERIALPOST_SCR };
+    printf("state");
+    for (size_t i = 0; i < sizeof order; i++)
+        printf(" %02x", saved[order[i]]);
+    printf(" %u ", (unsigned)count);
+    print_hex(waiting, count);
+    printf("\n");
+}
+
+static void print_clock(const struct serialpost_clock *clock)
+{
+    printf("state %08x %08x%08x %08x %08x %08x\n", (unsigned)clock->load, (unsigned)clock->offset_high,
+           (unsigned)clock->offset_low, (unsigned)clock->match, (unsigned)clock->mask, (unsigned)clock->raw_status);
+}
+
+static void answer(const struct device *device, const char *digits)
+{
+    uint8_t form[LONGEST], again[LONGEST], waiting[64], own_waiting[64] = { 0 };
+    struct serialpost_clock saved, own_saved; /* the larger of the two devices' */
+    size_t length = bytes_of(digits, form);
+    printf("%s ", device->name);
+    print_hex(form, length);
+    printf(" => ");
+
+    memset(waiting, 0, sizeof waiting);
+    uint32_t read = device->read(form, length, &saved, waiting);
+    EXPECT(device->own_reader(form, length, &own_saved, own_waiting) == read);
+    if (SERIALPOST_REFUSED(read)) {
+        EXPECT(read > 0x10000 && read <= SERIALPOST_OFFSET);
+        printf("%s\n", reasons[read - 0x10000]);
+        return;
+    }
+    EXPECT(memcmp(&saved, &own_saved, device->saved_size) == 0 && memcmp(waiting, own_waiting, 64) == 0);
+    bool same = device->write(&saved, waiting, read, again, LONGEST) == length && memcmp(again, form, length) == 0;
+    EXPECT(same == (form[0] == device->current_version));
+    if (device == &serial_port)
+        print_port((const uint8_t *)&saved, waiting, read);
+    else
+        print_clock(&saved);
+}
+
+int main(void)
+{
+    char line[1024];
+    while (fgets(line, sizeof line, stdin) != NULL) {
+        if (line[0] == '\n' || line[0] == '#')
+            fputs(line, stdout);
+        else if (strncmp(line, "serial ", 7) == 0)
+            answer(&serial_port, line + 7);
+        else if (strncmp(line, "clock ", 6) == 0)
+            answer(&a_clock, line + 6);
+        else
+            EXPECT(!"a line for a device");
+    }
+    return 0;
+}
