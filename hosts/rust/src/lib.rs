@@ -31,6 +31,7 @@
 #![deny(missing_docs)]
 #![deny(unsafe_code)]
 
+mod form;
 pub mod i8042;
 pub mod rtc_pl031;
 pub mod serial;
@@ -38,6 +39,7 @@ pub mod serial;
 #[allow(unsafe_code)]
 mod proved;
 
+pub use form::FormError;
 pub use i8042::I8042Device;
 pub use rtc_pl031::{Rtc, RtcState};
 pub use serial::{Serial, SerialState};

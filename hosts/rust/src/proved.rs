@@ -1,5 +1,7 @@
 //! The proved functions of libserialpost.a, and what their answers mean. The crate's `unsafe` is all here.
 
+use crate::FormError;
+
 // SAFETY: the declarations say what the Rattle sources say (`hosts/agree` compares them), and by its proof each
 // function is total: whatever the arguments, it touches only what it is lent, returns, and needs nothing before
 // it. A reference is never null and always of the right length, and the borrow checker keeps those of one call
@@ -42,6 +44,19 @@ unsafe extern "C" {
         waiting: *const u8,
         length: usize,
     ) -> u32;
+    fn serialpost_serial_encode(
+        saved: &[u8; 9],
+        waiting: *const u8,
+        waiting_length: usize,
+        form: *mut u8,
+        form_length: usize,
+    ) -> u32;
+    fn serialpost_serial_decode(
+        form: *const u8,
+        length: usize,
+        saved: &mut [u8; 9],
+        waiting: &mut [u8; 64],
+    ) -> u32;
 
     safe fn serialpost_clock_init(clock: &mut [u32; 6]);
     safe fn serialpost_clock_read(
@@ -58,6 +73,8 @@ unsafe extern "C" {
     ) -> bool;
     safe fn serialpost_clock_save(clock: &[u32; 6], saved: &mut [u32; 6]);
     safe fn serialpost_clock_restore(clock: &mut [u32; 6], saved: &[u32; 6]) -> bool;
+    fn serialpost_clock_encode(saved: &[u32; 6], form: *mut u8, length: usize) -> u32;
+    fn serialpost_clock_decode(form: *const u8, length: usize, saved: &mut [u32; 6]) -> u32;
 
     pub(crate) safe fn serialpost_i8042_read(offset: u8) -> u8;
     pub(crate) safe fn serialpost_i8042_write(offset: u8, value: u8) -> bool;
@@ -247,4 +264,62 @@ impl Clock {
     pub(crate) fn write(&mut self, offset: u16, time: u64, bytes: &[u8; 4]) -> bool {
         serialpost_clock_write(&mut self.0, offset, time, bytes)
     }
+}
+
+/// The longest form of a port, and that of a clock.
+const SERIAL_FORM_MOST: usize = 77;
+const CLOCK_FORM_SIZE: usize = 26;
+
+/// The answer to reading or writing a form: a number, or why there is none.
+fn form_answer(answer: u32) -> Result<usize, FormError> {
+    match answer {
+        0x1_0001 => Err(FormError::TooShort),
+        0x1_0002 => Err(FormError::TrailingBytes),
+        0x1_0003 => Err(FormError::Version),
+        0x1_0004 => Err(FormError::TooManyBytes),
+        0x1_0005 => Err(FormError::Offset),
+        number => Ok(number as usize),
+    }
+}
+
+/// The form of a port that was written down.
+pub(crate) fn port_to_bytes(regs: &[u8; 9], waiting: &[u8]) -> Result<Vec<u8>, FormError> {
+    let mut form = [0; SERIAL_FORM_MOST];
+    // SAFETY: each pointer and the length behind it are those of one slice, which is borrowed for the call, and the
+    // two lie apart.
+    let answer = unsafe {
+        serialpost_serial_encode(
+            regs,
+            waiting.as_ptr(),
+            waiting.len(),
+            form.as_mut_ptr(),
+            form.len(),
+        )
+    };
+    Ok(form[..form_answer(answer)?].to_vec())
+}
+
+/// The port that a form is of: its registers, and the bytes that wait.
+pub(crate) fn port_from_bytes(form: &[u8]) -> Result<([u8; 9], Vec<u8>), FormError> {
+    let (mut regs, mut waiting) = ([0; 9], [0; 64]);
+    // SAFETY: the pointer and the length are those of one slice, which is borrowed for the call.
+    let answer =
+        unsafe { serialpost_serial_decode(form.as_ptr(), form.len(), &mut regs, &mut waiting) };
+    Ok((regs, waiting[..form_answer(answer)?].to_vec()))
+}
+
+/// The form of a clock that was written down.
+pub(crate) fn clock_to_bytes(saved: &[u32; 6]) -> Result<Vec<u8>, FormError> {
+    let mut form = [0; CLOCK_FORM_SIZE];
+    // SAFETY: the pointer and the length are those of one slice, which is borrowed for the call.
+    let answer = unsafe { serialpost_clock_encode(saved, form.as_mut_ptr(), form.len()) };
+    Ok(form[..form_answer(answer)?].to_vec())
+}
+
+/// The clock that a form is of.
+pub(crate) fn clock_from_bytes(form: &[u8]) -> Result<[u32; 6], FormError> {
+    let mut saved = [0; 6];
+    // SAFETY: the pointer and the length are those of one slice, which is borrowed for the call.
+    let answer = unsafe { serialpost_clock_decode(form.as_ptr(), form.len(), &mut saved) };
+    form_answer(answer).map(|_| saved)
 }

@@ -2,7 +2,8 @@
 
 use std::time::{SystemTime, UNIX_EPOCH};
 
-use crate::proved::Clock;
+use crate::proved::{self, Clock};
+use crate::FormError;
 
 /// Stands where vm-superio has its callbacks for events. There are none yet, so [`NoEvents`] alone has it.
 pub trait RtcEvents: private::Sealed {}
@@ -42,6 +43,21 @@ impl RtcState {
     /// vm-superio does not have this.
     pub fn is_reachable(&self) -> bool {
         Clock::restored(&self.words()).1
+    }
+
+    /// The state as bytes, in the form that docs/STATE-FORMAT.md tells. One whose offset does not lie within 33 signed
+    /// bits has none: [`FormError::Offset`].
+    ///
+    /// vm-superio does not have this.
+    pub fn to_bytes(&self) -> Result<Vec<u8>, FormError> {
+        proved::clock_to_bytes(&self.words())
+    }
+
+    /// The state that was put into bytes; or why these are the form of none.
+    ///
+    /// vm-superio does not have this.
+    pub fn from_bytes(form: &[u8]) -> Result<Self, FormError> {
+        proved::clock_from_bytes(form).map(Self::new)
     }
 
     fn new([lr, mr, imsc, ris, offset_low, offset_high]: [u32; 6]) -> Self {

@@ -4,8 +4,8 @@ use std::error;
 use std::fmt;
 use std::io::{self, Write};
 
-use crate::proved::Port;
-use crate::Trigger;
+use crate::proved::{self, Port};
+use crate::{FormError, Trigger};
 
 /// Stands where vm-superio has its callbacks for events. There are none yet, so [`NoEvents`] alone has it.
 pub trait SerialEvents: private::Sealed {}
@@ -58,6 +58,30 @@ impl SerialState {
         Port::restored(&self.registers(), &self.in_buffer)
             .1
             .reached()
+    }
+
+    /// The state as bytes, in the form that docs/STATE-FORMAT.md tells. One with more than 64 bytes has none:
+    /// [`FormError::TooManyBytes`].
+    ///
+    /// ```
+    /// use serialpost::SerialState;
+    ///
+    /// let state = SerialState::default();
+    /// let bytes = state.to_bytes().unwrap();
+    /// assert_eq!(SerialState::from_bytes(&bytes), Ok(state));
+    /// ```
+    ///
+    /// vm-superio does not have this.
+    pub fn to_bytes(&self) -> Result<Vec<u8>, FormError> {
+        proved::port_to_bytes(&self.registers(), &self.in_buffer)
+    }
+
+    /// The state that was put into bytes; or why these are the form of none.
+    ///
+    /// vm-superio does not have this.
+    pub fn from_bytes(form: &[u8]) -> Result<Self, FormError> {
+        let (registers, waiting) = proved::port_from_bytes(form)?;
+        Ok(Self::new(registers, waiting))
     }
 
     fn new([dll, ier, iir, lcr, mcr, lsr, msr, scr, dlm]: [u8; 9], waiting: Vec<u8>) -> Self {

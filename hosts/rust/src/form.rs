@@ -1,0 +1,34 @@
+//! Why a state has no byte form, or bytes are the form of no state.
+
+use std::error;
+use std::fmt;
+
+/// Why a state has no byte form, or bytes are the form of no state. Where several are true, docs/STATE-FORMAT.md says
+/// which it is.
+#[derive(Clone, Copy, Debug, Eq, PartialEq)]
+pub enum FormError {
+    /// The bytes end too early.
+    TooShort,
+    /// More bytes follow the form.
+    TrailingBytes,
+    /// The form has a version that is not known.
+    Version,
+    /// More than 64 bytes wait in a port.
+    TooManyBytes,
+    /// The offset of a clock does not lie within 33 signed bits.
+    Offset,
+}
+
+impl fmt::Display for FormError {
+    fn fmt(&self, f: &mut fmt::Formatter) -> fmt::Result {
+        f.write_str(match self {
+            FormError::TooShort => "the form ends too early",
+            FormError::TrailingBytes => "bytes follow the form",
+            FormError::Version => "the form has a version that is not known",
+            FormError::TooManyBytes => "more bytes wait than a port has room for",
+            FormError::Offset => "the clock's offset does not lie within 33 signed bits",
+        })
+    }
+}
+
+impl error::Error for FormError {}
