@@ -3,15 +3,14 @@
 -- Assumes nothing.
 use mathlib.Core.Path.{_≡_, refl, sym, ap, ap₂, _∙_}
 use mathlib.Core.List.{List, [], _∷_, _++_}
-use Prim.Native.Nat.{ℕ, zero, suc, _+_, _*_, _/_, _≤_, _<_}
+use Prim.Native.Nat.{ℕ, _+_, _≤_, _<_}
 use native.Mathlib.Decide.{decLt, ℕ-discrete}
-use native.Mathlib.Nat.{zero-add, add-mul-mod-self-left, add-mul-div-left, mod-eq-of-lt, div-eq-of-lt}
 use native.Mathlib.Omega.{arith}
-use lib.Dec.{lit<}
 use lib.ListN.{length, take, drop, length-append, length-take, length-drop, take-append-drop, drop-of-length-le}
 use lib.Seq.{take-all, take-append-seam, take-at, drop-at, drop-drop}
 use borrow.Author.Tests.{le-leb}
 use Rattle.common.specs.Bytes.{bytesOf, valueOf, Bytes}
+use Rattle.common.proofs.Bytes.{bytes-drop, bytes-of-value}
 use Rattle.common.specs.Forms.{tooShort}
 use Rattle.serial_form.specs.Form.{Read, refused, reads, capacity, formOf, versionIn, registersIn, countIn, readBehind, readVersion1, readForm}
 use Rattle.serial_form.specs.Calls.{written, Encodes, Decodes}
@@ -109,22 +108,10 @@ read-version1 registers nine =
 
 -- ---- What is read is a state, and of the current version it is written as the same bytes
 
-bytes-back : (l : List ℕ) → Bytes l → bytesOf (length l) (valueOf l) ≡ l
-unfolding bytesOf valueOf
-bytes-back [] b = refl
-bytes-back (x ∷ l) (p, b) =
-    let rest : (x + 256 * valueOf l) / 256 ≡ valueOf l = rw (add-mul-div-left x (valueOf l) (lit< tt), div-eq-of-lt p) (zero-add (valueOf l)) in
-    rw (add-mul-mod-self-left x 256 (valueOf l), mod-eq-of-lt p, rest) (ap (λ (r : List ℕ). x ∷ r) (bytes-back l b))
-
 two-back : (l : List ℕ) → 2 ≤ length l → Bytes l → bytesOf 2 (valueOf (take 2 l)) ≡ take 2 l
 two-back [] h b = absurd (omega arith)
 two-back (x ∷ []) h b = absurd (omega arith)
-two-back (x ∷ y ∷ l) h (p, (q, b)) = bytes-back (x ∷ y ∷ []) (p, (q, tt))
-
-bytes-behind : (n : ℕ) (l : List ℕ) → Bytes l → Bytes (drop n l)
-bytes-behind zero l b = b
-bytes-behind (suc n) [] b = b
-bytes-behind (suc n) (x ∷ l) (p, b) = bytes-behind n l b
+two-back (x ∷ y ∷ l) h (p, (q, b)) = bytes-of-value (x ∷ y ∷ []) (p, (q, tt))
 
 module _ (form : List ℕ) where
   long : {fixed n : ℕ} → Known form fixed n → 11 ≤ fixed
@@ -147,7 +134,7 @@ module _ (form : List ℕ) where
       let count : length (drop 13 form) ≡ countIn form = simp length-drop (omega arith) in
       let number : 2 ≤ length (drop 11 form) = simp length-drop (omega arith) in
       let front : bytesOf 2 2 ≡ take 2 form = rw v at (two-back form two b) in
-      rw (front, count, two-back (drop 11 form) number (bytes-behind 11 form b), ← drop-drop 2 11 form, take-append-drop 2 (drop 11 form))
+      rw (front, count, two-back (drop 11 form) number (bytes-drop 11 form b), ← drop-drop 2 11 form, take-append-drop 2 (drop 11 form))
       (rw (← drop-drop 9 2 form, take-append-drop 9 (drop 2 form)) (take-append-drop 2 form))
 
 module _ (form registers waiting : List ℕ) (read : readForm form ≡ reads registers waiting) where
