@@ -71,18 +71,18 @@ pub goes-on : {o o′ : Read} {saved waiting saved′ waiting′ : List ℕ} {r 
     → Decodes o saved waiting saved′ waiting′ r
 goes-on e d = rw e d
 
-module _ (fixed n : ℕ) (form saved waiting : List ℕ) {saved′ waiting′ : List ℕ} where
-  pub accepts : 11 ≤ fixed → n ≤ capacity → length form ≡ fixed + n → length saved ≡ 9 → length waiting ≡ capacity
-      → saved′ ≡ sets saved 0 (registersIn form) → waiting′ ≡ sets waiting 0 (take (length form - fixed) (drop fixed form))
-      → Decodes (readBehind fixed n form) saved waiting saved′ waiting′ n
-  accepts low h e s w p q =
-      let behind : length (drop fixed form) ≡ n = length-drop fixed form ∙ omega arith in
+module _ (n : ℕ) (form saved waiting : List ℕ) {saved′ waiting′ : List ℕ} where
+  pub accepts : n ≤ capacity → length form ≡ 13 + n → length saved ≡ 9 → length waiting ≡ capacity
+      → saved′ ≡ sets saved 0 (registersIn form) → waiting′ ≡ sets waiting 0 (take (length form - 13) (drop 13 form))
+      → Decodes (readBehind n form) saved waiting saved′ waiting′ n
+  accepts h e s w p q =
+      let behind : length (drop 13 form) ≡ n = length-drop 13 form ∙ omega arith in
       let nine : length (registersIn form) ≡ length saved = simp (length-take, length-drop) (omega arith) in
-      let room : length (drop fixed form) ≤ length waiting = omega arith in
-      let all : length (drop fixed form) ≤ length form - fixed = omega arith in
-      rw (come-out-even fixed n form h e)
+      let room : length (drop 13 form) ≤ length waiting = omega arith in
+      let all : length (drop 13 form) ≤ length form - 13 = omega arith in
+      rw (come-out-even n form h e)
       (record {
         answer = sym behind;
         registers = p ∙ sets-all (registersIn form) saved nine;
-        bytes = rw (q, take-all (length form - fixed) (drop fixed form) all) (sets-first (drop fixed form) waiting room);
+        bytes = rw (q, take-all (length form - 13) (drop 13 form) all) (sets-first (drop 13 form) waiting room);
       })

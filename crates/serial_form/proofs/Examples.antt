@@ -6,7 +6,7 @@ use Prim.Native.Nat.{ℕ}
 use lib.ListN.{take}
 use Rattle.common.specs.Bytes.{bytesOf, valueOf}
 use Rattle.common.specs.Forms.{tooShort, trailing, version, tooMany}
-use Rattle.serial_form.specs.Form.{refused, reads, formOf, readBehind, readVersion1, readVersion2, readVersion, readForm}
+use Rattle.serial_form.specs.Form.{refused, reads, formOf, readBehind, readVersion2, readForm}
 
 -- A fresh port's registers.
 abbrev fresh : List ℕ
@@ -21,27 +21,27 @@ unfolding formOf bytesOf
 written = refl
 
 read : readForm form ≡ reads fresh (0x68 ∷ 0x69 ∷ [])
-unfolding readForm readVersion readVersion2 readBehind valueOf
+unfolding readForm readVersion2 readBehind valueOf
 read = refl
 
 a-byte-missing : readForm (take 14 form) ≡ refused tooShort
-unfolding readForm readVersion readVersion2 readBehind valueOf
+unfolding readForm readVersion2 readBehind valueOf
 a-byte-missing = refl
 
 a-byte-more : readForm (form ++ (0 ∷ [])) ≡ refused trailing
-unfolding readForm readVersion readVersion2 readBehind valueOf
+unfolding readForm readVersion2 readBehind valueOf
 a-byte-more = refl
 
-version-1 : readForm (1 ∷ 0 ∷ fresh) ≡ reads fresh []
-unfolding readForm readVersion readVersion1 readBehind valueOf
+version-1 : readForm (1 ∷ 0 ∷ fresh) ≡ refused version
+unfolding readForm valueOf
 version-1 = refl
 
 -- The version stands lowest byte first.
 version-512 : readForm (0 ∷ 2 ∷ fresh) ≡ refused version
-unfolding readForm readVersion valueOf
+unfolding readForm valueOf
 version-512 = refl
 
 -- That bytes are missing too is not said.
 sixty-five : readForm (2 ∷ 0 ∷ (fresh ++ (65 ∷ 0 ∷ []))) ≡ refused tooMany
-unfolding readForm readVersion readVersion2 readBehind valueOf
+unfolding readForm readVersion2 readBehind valueOf
 sixty-five = refl

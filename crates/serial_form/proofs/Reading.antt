@@ -10,38 +10,38 @@ use lib.Seq.{drop-cons}
 use borrow.Author.Tests.{lt-ltb, le-ltb, ne-eqb}
 use Rattle.common.specs.Bytes.{valueOf}
 use Rattle.common.specs.Forms.{tooShort, trailing, version, tooMany}
-use Rattle.serial_form.specs.Form.{refused, reads, capacity, versionIn, registersIn, countIn, readBehind, readVersion1, readVersion2, readVersion, readForm}
+use Rattle.serial_form.specs.Form.{refused, reads, current, capacity, versionIn, registersIn, countIn, readBehind, readVersion2, readForm}
 
--- ---- Behind the fixed part
+-- ---- Behind the number
 
-module _ (fixed n : ℕ) (form : List ℕ) where
-  pub too-many : capacity < n → readBehind fixed n form ≡ refused tooMany
+module _ (n : ℕ) (form : List ℕ) where
+  pub too-many : capacity < n → readBehind n form ≡ refused tooMany
   unfolding readBehind
   too-many h = rw (lt-ltb _ _ h)
 
-  pub too-few : n ≤ capacity → length form < fixed + n → readBehind fixed n form ≡ refused tooShort
+  pub too-few : n ≤ capacity → length form < 13 + n → readBehind n form ≡ refused tooShort
   unfolding readBehind
   too-few h l = rw (le-ltb _ _ h, lt-ltb _ _ l)
 
-  pub left-over : n ≤ capacity → fixed + n < length form → readBehind fixed n form ≡ refused trailing
+  pub left-over : n ≤ capacity → 13 + n < length form → readBehind n form ≡ refused trailing
   unfolding readBehind
-  left-over h l = let m : fixed + n ≤ length form = omega arith in rw (le-ltb _ _ h, le-ltb _ _ m, lt-ltb _ _ l)
+  left-over h l = let m : 13 + n ≤ length form = omega arith in rw (le-ltb _ _ h, le-ltb _ _ m, lt-ltb _ _ l)
 
-  pub come-out-even : n ≤ capacity → length form ≡ fixed + n → readBehind fixed n form ≡ reads (registersIn form) (drop fixed form)
+  pub come-out-even : n ≤ capacity → length form ≡ 13 + n → readBehind n form ≡ reads (registersIn form) (drop 13 form)
   unfolding readBehind
   come-out-even h e =
-      let m : fixed + n ≤ length form = omega arith in
-      let l : length form ≤ fixed + n = omega arith in
+      let m : 13 + n ≤ length form = omega arith in
+      let l : length form ≤ 13 + n = omega arith in
       rw (le-ltb _ _ h, le-ltb _ _ m, le-ltb _ _ l)
 
--- ---- The versions
+-- ---- The version
 
 module _ (form : List ℕ) where
   pub no-count : length form < 13 → readVersion2 form ≡ refused tooShort
   unfolding readVersion2
   no-count h = rw (lt-ltb _ _ h)
 
-  pub counted : 13 ≤ length form → readVersion2 form ≡ readBehind 13 (countIn form) form
+  pub counted : 13 ≤ length form → readVersion2 form ≡ readBehind (countIn form) form
   unfolding readVersion2
   counted h = rw (le-ltb _ _ h)
 
@@ -49,17 +49,13 @@ module _ (form : List ℕ) where
   unfolding readForm
   no-version h = rw (lt-ltb _ _ h)
 
-  pub first-version : 2 ≤ length form → versionIn form ≡ 1 → readForm form ≡ readVersion1 form
-  unfolding readForm readVersion
-  first-version h e = rw (le-ltb _ _ h, e)
+  pub known-version : 2 ≤ length form → versionIn form ≡ current → readForm form ≡ readVersion2 form
+  unfolding readForm
+  known-version h e = rw (le-ltb _ _ h, e)
 
-  pub second-version : 2 ≤ length form → versionIn form ≡ 2 → readForm form ≡ readVersion2 form
-  unfolding readForm readVersion
-  second-version h e = rw (le-ltb _ _ h, e)
-
-  pub no-such-version : 2 ≤ length form → (versionIn form ≡ 1 → ⊥) → (versionIn form ≡ 2 → ⊥) → readForm form ≡ refused version
-  unfolding readForm readVersion
-  no-such-version h e d = rw (le-ltb _ _ h, ne-eqb _ _ e, ne-eqb _ _ d)
+  pub other-version : 2 ≤ length form → (versionIn form ≡ current → ⊥) → readForm form ≡ refused version
+  unfolding readForm
+  other-version h d = rw (le-ltb _ _ h, ne-eqb _ _ d)
 
 -- ---- Numbers as the code finds them
 

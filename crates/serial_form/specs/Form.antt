@@ -8,7 +8,7 @@ use lib.Dec.{ltb, eqb}
 use Rattle.common.specs.Bytes.{bytesOf, valueOf}
 use Rattle.common.specs.Forms.{Reason, tooShort, trailing, version, tooMany}
 
--- The version that is written.
+-- The version that is written and read.
 abbrev pub current : ℕ
 current = 2
 
@@ -37,27 +37,20 @@ registersIn form = take 9 (drop 2 form)
 abbrev pub countIn : List ℕ → ℕ
 countIn form = valueOf (take 2 (drop 11 form))
 
--- Behind a fixed part of that many bytes n bytes wait, no fewer and no more.
-unfoldable pub readBehind : ℕ → ℕ → List ℕ → Read
-readBehind fixed n form =
+-- Behind the number n bytes wait, no fewer and no more.
+unfoldable pub readBehind : ℕ → List ℕ → Read
+readBehind n form =
     cond (ltb capacity n) (refused tooMany)
-    (cond (ltb (length form) (fixed + n)) (refused tooShort)
-    (cond (ltb (fixed + n) (length form)) (refused trailing)
-    (reads (registersIn form) (drop fixed form))))
+    (cond (ltb (length form) (13 + n)) (refused tooShort)
+    (cond (ltb (13 + n) (length form)) (refused trailing)
+    (reads (registersIn form) (drop 13 form))))
 
--- Version 1 ends with the registers: no byte waits.
-unfoldable pub readVersion1 : List ℕ → Read
-readVersion1 form = readBehind 11 0 form
-
--- Version 2 says how many.
 unfoldable pub readVersion2 : List ℕ → Read
-readVersion2 form = cond (ltb (length form) 13) (refused tooShort) (readBehind 13 (countIn form) form)
+readVersion2 form = cond (ltb (length form) 13) (refused tooShort) (readBehind (countIn form) form)
 
-unfoldable pub readVersion : ℕ → List ℕ → Read
-readVersion v form =
-    cond (eqb v 1) (readVersion1 form)
-    (cond (eqb v 2) (readVersion2 form)
-    (refused version))
-
+-- No other version is read: version 1, which knew no waiting bytes, neither.
 unfoldable pub readForm : List ℕ → Read
-readForm form = cond (ltb (length form) 2) (refused tooShort) (readVersion (versionIn form) form)
+readForm form =
+    cond (ltb (length form) 2) (refused tooShort)
+    (cond (eqb (versionIn form) current) (readVersion2 form)
+    (refused version))

@@ -6,10 +6,10 @@ ghost use Prim.Native.Nat.{_+_, _≤_};
 ghost use lib.ListN.{length};
 ghost use lib.Seq.{sets};
 ghost use Rattle.common.specs.Bytes.{bytesOf, valueOf};
-ghost use Rattle.serial_form.specs.Form.{capacity, formOf, readForm, readVersion1, readVersion2, readBehind};
+ghost use Rattle.serial_form.specs.Form.{capacity, formOf, readForm, readVersion2, readBehind};
 ghost use Rattle.serial_form.specs.Calls.{Encodes, Decodes};
 
-// The version that is written.
+// The version that is written and read.
 const CURRENT: usize = 2;
 
 // How many bytes may wait.
@@ -111,21 +111,14 @@ pub extern "C" fn serialpost_serial_encode(saved: &[u8; 9], waiting: &[u8], form
 
 // ---- Reading
 
-// Behind a fixed part of that many bytes n bytes wait.
-fn decode_behind(
-    fixed: usize,
-    n: usize,
-    form: &[u8],
-    saved: &mut [u8; 9],
-    waiting: &mut [u8; 64],
-) -> u32
-    requires { ⌜ (11 ≤ fixed) × (fixed ≤ 13) ⌝ }
-    ensures { λ r. ⌜ Decodes (readBehind fixed n (now (form .entry))) (now (saved .entry)) (now (waiting .entry)) (now (saved .exit)) (now (waiting .exit)) r ⌝ }
+// Behind the number n bytes wait.
+fn decode_behind(n: usize, form: &[u8], saved: &mut [u8; 9], waiting: &mut [u8; 64]) -> u32
+    ensures { λ r. ⌜ Decodes (readBehind n (now (form .entry))) (now (saved .entry)) (now (waiting .entry)) (now (saved .exit)) (now (waiting .exit)) r ⌝ }
 {
     if CAPACITY < n {
         return TOO_MANY;
     }
-    let end = fixed + n;
+    let end = WAITING + n;
     if form.len() < end {
         return TOO_SHORT;
     }
@@ -135,15 +128,8 @@ fn decode_behind(
     nine(saved);
     whole(waiting);
     put(saved, 0, &form[REGISTERS..COUNT]);
-    put(waiting, 0, &form[fixed..]);
+    put(waiting, 0, &form[WAITING..]);
     n as u32
-}
-
-// Version 1 ends where version 2 says how many bytes wait.
-fn decode_version_1(form: &[u8], saved: &mut [u8; 9], waiting: &mut [u8; 64]) -> u32
-    ensures { λ r. ⌜ Decodes (readVersion1 (now (form .entry))) (now (saved .entry)) (now (waiting .entry)) (now (saved .exit)) (now (waiting .exit)) r ⌝ }
-{
-    decode_behind(COUNT, 0, form, saved, waiting)
 }
 
 fn decode_version_2(form: &[u8], saved: &mut [u8; 9], waiting: &mut [u8; 64]) -> u32
@@ -152,13 +138,7 @@ fn decode_version_2(form: &[u8], saved: &mut [u8; 9], waiting: &mut [u8; 64]) ->
     if form.len() < WAITING {
         return TOO_SHORT;
     }
-    decode_behind(
-        WAITING,
-        number(form[COUNT], form[COUNT + 1]),
-        form,
-        saved,
-        waiting,
-    )
+    decode_behind(number(form[COUNT], form[COUNT + 1]), form, saved, waiting)
 }
 
 // Answers how many bytes wait, or why the form is refused; then nothing is written.
@@ -173,15 +153,9 @@ pub extern "C" fn serialpost_serial_decode(
     if form.len() < REGISTERS {
         return TOO_SHORT;
     }
-    match number(form[0], form[1]) {
-        1 => {
-            return decode_version_1(form, saved, waiting);
-        }
-        2 => {
-            return decode_version_2(form, saved, waiting);
-        }
-        _ => {
-            return VERSION;
-        }
+    let version = number(form[0], form[1]);
+    if version != CURRENT {
+        return VERSION;
     }
+    decode_version_2(form, saved, waiting)
 }

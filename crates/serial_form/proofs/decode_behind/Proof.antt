@@ -8,16 +8,16 @@ use Rattle.serial_form.proofs.decode_behind.Statement.{statement}
 use Rattle.serial_form.proofs.decode_behind.Tie as tie
 
 returns : tie.Need-returns
-returns c = refuses tooMany _ _ (too-many _ _ _ (c .if1 .taken))
+returns c = refuses tooMany _ _ (too-many _ _ (c .if1 .taken))
 
 add-end : tie.Need-add-end
 add-end c = search needs
 
 returns-2 : tie.Need-returns-2
-returns-2 c = refuses tooShort _ _ (too-few _ _ _ (omega arith) (omega arith))
+returns-2 c = refuses tooShort _ _ (too-few _ _ (omega arith) (omega arith))
 
 returns-3 : tie.Need-returns-3
-returns-3 c = refuses trailing _ _ (left-over _ _ _ (omega arith) (omega arith))
+returns-3 c = refuses trailing _ _ (left-over _ _ (omega arith) (omega arith))
 
 nine-requires : tie.Need-nine-requires
 nine-requires c κs = search needs
@@ -56,7 +56,7 @@ returns-4 : tie.Need-returns-4
 returns-4 c =
     let first = c .before .before .before in
     let arrays = first .before .before .before in
-    accepts _ _ _ _ _ (omega arith) (omega arith) (omega arith) (arrays .before .before .nine .ensures) (arrays .whole .ensures) (first .put .ensures)
+    accepts _ _ _ _ (omega arith) (omega arith) (arrays .before .before .nine .ensures) (arrays .whole .ensures) (first .put .ensures)
     (c .put2 .ensures)
 
 pub decode-behind-spec : {M : Type 1} → statement M

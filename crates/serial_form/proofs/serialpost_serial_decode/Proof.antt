@@ -1,12 +1,12 @@
 -- Assumes nothing.
-use mathlib.Core.Path.{_≡_, sym, _∙_}
+use mathlib.Core.Path.{_≡_}
 use Prim.Native.Nat.{ℕ, _≤_}
 use native.Mathlib.Omega.{arith}
 use mathlib.Core.List.{List}
 use lib.ListN.{length}
 use Rattle.common.specs.Forms.{tooShort, version}
 use Rattle.serial_form.specs.Form.{versionIn}
-use Rattle.serial_form.proofs.Reading.{no-version, first-version, second-version, no-such-version, version-found}
+use Rattle.serial_form.proofs.Reading.{no-version, known-version, other-version, version-found}
 use Rattle.serial_form.proofs.Answers.{refuses, goes-on}
 use borrow.Author.Needs.{needs}
 use Rattle.serial_form.proofs.serialpost_serial_decode.Statement.{statement}
@@ -24,10 +24,7 @@ shared-slice-read-number-2 c = search needs
 number-requires : tie.Need-number-requires
 number-requires c κs = search needs
 
-decode-version-1-requires : tie.Need-decode-version-1-requires
-decode-version-1-requires c κs = search needs
-
--- What is matched is the form's version.
+-- What is tested is the form's version.
 abbrev form : tie.After-number → List ℕ
 form c = c .before .before .before .before .before .args .form .now
 
@@ -38,22 +35,15 @@ found : (c : tie.After-number) → c .number .result ≡ versionIn (form c)
 found c = version-found (form c) (there c) (c .number .ensures)
 
 returns-2 : tie.Need-returns-2
-returns-2 c =
-    let at = c .before .before .before in
-    goes-on (first-version (form (at .before)) (there (at .before)) (sym (found (at .before)) ∙ at .match .keys1)) (c .decode-version-1 .ensures)
+returns-2 c = refuses version _ _ (other-version (form (c .before)) (there (c .before)) (λ e. omega (arith, found (c .before))))
 
 decode-version-2-requires : tie.Need-decode-version-2-requires
 decode-version-2-requires c κs = search needs
 
 returns-3 : tie.Need-returns-3
 returns-3 c =
-    let at = c .before .before .before in
-    goes-on (second-version (form (at .before)) (there (at .before)) (sym (found (at .before)) ∙ at .match .keys2)) (c .decode-version-2 .ensures)
-
-returns-4 : tie.Need-returns-4
-returns-4 c =
-    let it = found (c .before) in
-    refuses version _ _ (no-such-version (form (c .before)) (there (c .before)) (λ e. c .match .rest .0 .1 (it ∙ e)) (λ e. c .match .rest .1 (it ∙ e)))
+    let tested = c .before .before .before in
+    goes-on (known-version (form (tested .before)) (there (tested .before)) (omega (arith, found (tested .before)))) (c .decode-version-2 .ensures)
 
 pub serialpost-serial-decode-spec : {M : Type 1} → statement M
 serialpost-serial-decode-spec =
@@ -63,8 +53,6 @@ serialpost-serial-decode-spec =
     shared-slice-read-number
     shared-slice-read-number-2
     number-requires
-    decode-version-1-requires
     returns-2
     decode-version-2-requires
-    returns-3
-    returns-4)
+    returns-3)
