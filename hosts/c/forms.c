@@ -74,14 +74,12 @@ static uint32_t read_in(struct place place, const struct device *device, const u
     return answer;
 }
 
-/* What was read is written again: the same bytes, if they were of the current version. */
+/* What was read is written again: the same bytes. */
 static void write_again(struct place place, const struct device *device, const uint8_t *form, size_t length, uint32_t count)
 {
     uint8_t again[LONGEST];
     uint32_t written = device->write(place.saved, place.waiting, count, again, sizeof again);
-    EXPECT(!SERIALPOST_REFUSED(written) && written <= sizeof again);
-    bool same = written == length && memcmp(again, form, length) == 0;
-    EXPECT(same == (form[0] == device->current_version));
+    EXPECT(written == length && memcmp(again, form, length) == 0);
 }
 
 static uint32_t read_everywhere(const struct device *device, const uint8_t *form, size_t length)
@@ -158,7 +156,7 @@ static size_t any_bytes_at_all(uint8_t form[LONGEST])
     return length;
 }
 
-/* Version 1 of the serial port's form: its registers. */
+/* Version 1 of the serial port's form, which is no longer read: its registers. */
 static size_t first_version(uint8_t form[LONGEST])
 {
     form[0] = 1;

@@ -22,18 +22,16 @@ static uint32_t own_serial_reader(const uint8_t *form, size_t length, void *save
 {
     if (length < 2)
         return REASON(1);
-    uint64_t version = number_at(form, 0, 2), n = 0;
-    if (version != 1 && version != 2)
+    if (number_at(form, 0, 2) != 2)
         return REASON(3);
-    if (length < (version == 1 ? 11 : 13))
+    if (length < 13)
         return REASON(1);
-    if (version == 2)
-        n = number_at(form, 11, 2);
+    uint64_t n = number_at(form, 11, 2);
     if (n > 64)
         return REASON(4);
-    if (version == 2 && length < 13 + n)
+    if (length < 13 + n)
         return REASON(1);
-    if (length > (version == 1 ? 11 : 13 + n))
+    if (length > 13 + n)
         return REASON(2);
     memcpy(saved, form + 2, 9);
     for (uint64_t i = 0; i < n; i++)
@@ -112,7 +110,6 @@ static uint32_t write_clock(const void *saved, const uint8_t *waiting, size_t co
 /* A device's forms. What is saved are `saved_size` bytes and, of a serial port, those that wait. */
 struct device {
     const char *name;
-    uint8_t current_version;
     size_t saved_size;
     uint32_t (*read)(const uint8_t *form, size_t length, void *saved, uint8_t *waiting);
     uint32_t (*own_reader)(const uint8_t *form, size_t length, void *saved, uint8_t *waiting);
@@ -121,10 +118,10 @@ struct device {
 };
 
 static const struct device serial_port = {
-    "serial", 2, 9, read_serial, own_serial_reader, write_serial, own_serial_size,
+    "serial", 9, read_serial, own_serial_reader, write_serial, own_serial_size,
 };
 static const struct device a_clock = {
-    "clock", 1, sizeof(struct serialpost_clock), read_clock, own_clock_reader, write_clock, own_clock_size,
+    "clock", sizeof(struct serialpost_clock), read_clock, own_clock_reader, write_clock, own_clock_size,
 };
 
 #endif
