@@ -3,7 +3,8 @@
 use mathlib.Core.Path.{_≡_, refl, sym, ap, _∙_}
 use mathlib.Core.Bool.{Bool, true, false, cond}
 use mathlib.Core.List.{List, [], _∷_, _++_}
-use Prim.Native.Nat.{ℕ, zero, suc, _≤_}
+use Prim.Native.Nat.{ℕ, zero, suc, _+_, _≤_}
+use native.Mathlib.Nat.{add-zero, zero-add}
 use native.Mathlib.Omega.{arith}
 use lib.ListN.{length, getD, take}
 use borrow.Author.Tests.{leb-true}
@@ -17,7 +18,7 @@ use Rattle.runs.proofs.Conserved.{conserved, never-more, run-size}
 use Rattle.runs.proofs.Status.{stays-true}
 use Rattle.runs.proofs.Reachable.{step-reachable}
 use Rattle.serial_saved.specs.Saved.{fits, raisedAgain, Restore, restoreOf}
-use Rattle.histories.specs.History.{Deed, does, save, restore, bring, Standing, begins, goesOn, backTo, Host, starts, next, after, doing, Each}
+use Rattle.histories.specs.History.{Deed, does, save, restore, bring, Standing, begins, goesOn, backTo, Host, starts, next, after, savesIn, Each}
 
 -- ---- What every standing of a host has, if what comes from outside has it
 
@@ -44,7 +45,7 @@ record Every (P : Standing → Type 0) (h : Host) : Type 0 where
   pub kept : All P (h .kept)
 
 module _ (P : Standing → Type 0) (O : Op → Type 0) (Q : Port → Type 0) (go-on : (s : Standing) (o : Op) → O o → P s → P (goesOn s o))
-    (begin : (p : Port) → Q p → fits p ≡ true → P (begins p)) where
+    (begin : (p : Port) → fits p ≡ true → Q p → P (begins p)) where
   every : (h : Host) (ds : List Deed) → Each O Q ds → Every P h → Every P (after h ds)
   unfolding after
   every h [] e k = k
@@ -54,7 +55,7 @@ module _ (P : Standing → Type 0) (O : Op → Type 0) (Q : Port → Type 0) (go
       let back = one-of P (h .kept) n (h .here) (k .kept) (k .here) in
       every (next h (restore n)) ds e (record { here = chosen P (h .here) (getD (h .kept) n (h .here)) (k .here) (λ f. back); kept = k .kept })
   every h (bring p ∷ ds) e k =
-      every (next h (bring p)) ds (e .1) (record { here = chosen P (h .here) (begins p) (k .here) (begin p (e .0)); kept = k .kept })
+      every (next h (bring p)) ds (e .1) (record { here = chosen P (h .here) (begins p) (k .here) (λ f. begin p f (e .0 f)); kept = k .kept })
 
   -- from a port with no history, whatever the host does
   always : (p : Port) (ds : List Deed) → Each O Q ds → P (begins p) → P (after (starts p) ds .here)
@@ -69,7 +70,7 @@ anything [] = tt
 anything (does o ∷ ds) = (tt, anything ds)
 anything (save ∷ ds) = anything ds
 anything (restore n ∷ ds) = anything ds
-anything (bring p ∷ ds) = (tt, anything ds)
+anything (bring p ∷ ds) = (λ f. tt, anything ds)
 
 -- ---- The port is what its history made it
 
@@ -95,7 +96,7 @@ new p = record { port = refl; answers = refl }
 
 -- Whatever the host does, the port is the one that a plain run of its history leaves, and its answers were those of that run.
 pub as-if-run : (p : Port) (ds : List Deed) → Lived (after (starts p) ds .here)
-as-if-run p ds = always Lived Anything Anything (λ s o _. goes-on s o) (λ q _ f. new q) p ds (anything ds) (new p)
+as-if-run p ds = always Lived Anything Anything (λ s o _. goes-on s o) (λ q f _. new q) p ds (anything ds) (new p)
 
 -- To bring back is what the definition of bringing back says.
 pub brings-back : (here saved : Standing) → backTo here saved .port ≡ restoreOf (here .port) (saved .port) .port
@@ -124,7 +125,7 @@ Fits s = length (s .port .waiting) ≤ s .port .size
 pub bounded-across : (p : Port) (ds : List Deed) → length (p .waiting) ≤ p .size
     → let s = after (starts p) ds .here in length (s .port .waiting) ≤ s .port .size
 unfolding run
-bounded-across p ds h = always Fits Anything Anything one (λ q _ f. leb-true (length (q .waiting)) (q .size) f) p ds (anything ds) h
+bounded-across p ds h = always Fits Anything Anything one (λ q f _. leb-true (length (q .waiting)) (q .size) f) p ds (anything ds) h
   where
     one : (s : Standing) (o : Op) → Anything o → Fits s → Fits (goesOn s o)
     one s o _ f = omega (arith, never-more (s .port) (o ∷ []) f, run-size (s .port) (o ∷ []))
@@ -132,7 +133,7 @@ bounded-across p ds h = always Fits Anything Anything one (λ q _ f. leb-true (l
 -- The status register tells the truth, if it did on the ports brought from elsewhere.
 pub true-across : (p : Port) (ds : List Deed) → Each Anything Truthful ds → Truthful p → Truthful (after (starts p) ds .here .port)
 unfolding run
-true-across p ds e t = always (λ s. Truthful (s .port)) Anything Truthful one (λ q k f. k) p ds e t
+true-across p ds e t = always (λ s. Truthful (s .port)) Anything Truthful one (λ q f k. k) p ds e t
   where
     one : (s : Standing) (o : Op) → Anything o → Truthful (s .port) → Truthful (goesOn s o .port)
     one s o _ k = stays-true (s .port) (o ∷ []) k
@@ -141,7 +142,7 @@ true-across p ds e t = always (λ s. Truthful (s .port)) Anything Truthful one (
 pub reachable-across : (size : ℕ) (p : Port) (ds : List Deed) → Each OfBytes (Reachable size) ds → Reachable size p
     → Reachable size (after (starts p) ds .here .port)
 reachable-across size p ds e k =
-    always (λ s. Reachable size (s .port)) OfBytes (Reachable size) (λ s o b r. step-reachable size (s .port) o b r) (λ q r f. r) p ds e k
+    always (λ s. Reachable size (s .port)) OfBytes (Reachable size) (λ s o b r. step-reachable size (s .port) o b r) (λ q f r. r) p ds e k
 
 -- ---- What was done after the port was written down is undone by bringing it back
 
@@ -150,19 +151,27 @@ unfolding after
 after-more h [] more = refl
 after-more h (d ∷ ds) more = after-more (next h d) ds more
 
-still-kept : (h : Host) (os : List Op) → after h (doing os) .kept ≡ h .kept
+-- what is kept is kept on, behind what is kept later
+kept-on : (h : Host) (ds : List Deed) (n : ℕ) (other : Standing) → getD (after h ds .kept) (savesIn ds + n) other ≡ getD (h .kept) n other
 unfolding after
-still-kept h [] = refl
-still-kept h (o ∷ os) = still-kept (next h (does o)) os
+kept-on h [] n other = ap (λ (k : ℕ). getD (h .kept) k other) (zero-add n)
+kept-on h (does o ∷ ds) n other = kept-on (next h (does o)) ds n other
+kept-on h (save ∷ ds) n other =
+    let later : suc (savesIn ds) + n ≡ savesIn ds + suc n = omega arith in
+    ap (λ (k : ℕ). getD (after (next h save) ds .kept) k other) later ∙ kept-on (next h save) ds (suc n) other
+kept-on h (restore m ∷ ds) n other = kept-on (next h (restore m)) ds n other
+kept-on h (bring p ∷ ds) n other = kept-on (next h (bring p)) ds n other
 
--- The port and its history are those from before, as if nothing between had been.
-pub undone : (h : Host) (os : List Op) → fits (h .here .port) ≡ true → after h (save ∷ doing os ++ restore 0 ∷ []) .here ≡ h .here
+-- Whatever the host did since, other savings and restores among it: the port and its history are those from before, as if nothing between had been.
+pub undone : (h : Host) (ds : List Deed) → fits (h .here .port) ≡ true → after h (save ∷ ds ++ restore (savesIn ds) ∷ []) .here ≡ h .here
 unfolding after backTo
-undone h os f =
+undone h ds f =
     let h′ = next h save in
-    let between = after h′ (doing os) in
-    ap (λ (g : Host). g .here) (after-more h′ (doing os) (restore 0 ∷ []))
-    ∙ ap (λ (kept : List Standing). backTo (between .here) (getD kept 0 (between .here))) (still-kept h′ os)
+    let between = after h′ ds in
+    let saved : getD (between .kept) (savesIn ds) (between .here) ≡ h .here =
+    ap (λ (k : ℕ). getD (between .kept) k (between .here)) (sym (add-zero (savesIn ds))) ∙ kept-on h′ ds 0 (between .here) in
+    ap (λ (g : Host). g .here) (after-more h′ ds (restore (savesIn ds) ∷ []))
+    ∙ ap (backTo (between .here)) saved
     ∙ rw f
 
 take-first : (k : ℕ) (a b : List ℕ) → k ≤ length a → take k (a ++ b) ≡ take k a

@@ -1,14 +1,16 @@
 -- The same in memory: the calls that a host makes one after another, each as its contract promises.
-use Prim.Native.Nat.{ℕ, _<_}
+use Prim.Native.Nat.{ℕ, _/_, _%_, _<_}
+use mathlib.Core.Path.{_≡_}
+use mathlib.Core.Bool.{cond}
 use mathlib.Core.List.{List, [], _∷_}
 use lib.ListN.{length, getD, take}
 use Rattle.serial.specs.Port.{Port}
 use Rattle.serial.specs.Layout.{portOf}
-use Rattle.runs.specs.Run.{Op}
-use Rattle.runs.specs.Play.{Does}
-use Rattle.serial_saved.specs.Saved.{savedOf}
+use Rattle.runs.specs.Run.{Op, step}
+use Rattle.runs.specs.Play.{word, Does}
+use Rattle.serial_saved.specs.Saved.{savedOf, Restore, restoreOf}
 use Rattle.serial_saved.specs.Calls.{Saves, Restores}
-use Rattle.histories.specs.History.{Deed, does, save, restore, bring}
+use Rattle.histories.specs.History.{Deed, does, save, restore, bring, Host, next}
 
 -- A port's memory, and the memory of one that was written down.
 pub record Memory : Type 0 where
@@ -16,28 +18,43 @@ pub record Memory : Type 0 where
   pub pos : List ℕ
   pub ring : List ℕ
 
-pub record Written : Type 0 where
+pub record SavedMemory : Type 0 where
   pub regs : List ℕ
   pub waiting : List ℕ
 
 abbrev pub portIn : Memory → Port
 portIn m = portOf (m .regs) (m .pos) (m .ring)
 
-abbrev pub savedIn : Written → Port
+abbrev pub savedIn : SavedMemory → Port
 savedIn w = savedOf (w .regs) (w .waiting)
 
-abbrev pub Brought : Memory → Written → Memory → ℕ → Type 0
+abbrev pub Brought : Memory → SavedMemory → Memory → ℕ → Type 0
 Brought m w m′ r = Restores (m .regs) (m .pos) (m .ring) (w .regs) (w .waiting) (m′ .regs) (m′ .pos) (m′ .ring) r
 
--- From a memory and what was kept, the last first, to those after the deeds. The host brings back only what it kept.
-pub data Called : Memory → List Written → List Deed → Memory → Type 0 where
-  none : {m : Memory} {kept : List Written} → Called m kept [] m
-  then : {m m′ m″ : Memory} {kept : List Written} {ds : List Deed} {o : Op} {r : ℕ}
-      → Does (portIn m) o (portIn m′) r → Called m′ kept ds m″ → Called m kept (does o ∷ ds) m″
-  saves : {m m″ : Memory} {kept : List Written} {ds : List Deed} {waiting saved′ waiting′ : List ℕ} {r : ℕ}
+-- From a memory and what was kept, the last first, to the memory after the deeds; and the word that each call answered. The host brings back only
+-- what it kept.
+pub data Called : Memory → List SavedMemory → List Deed → Memory → List ℕ → Type 0 where
+  none : {m : Memory} {kept : List SavedMemory} → Called m kept [] m []
+  then : {m m′ m″ : Memory} {kept : List SavedMemory} {ds : List Deed} {o : Op} {r : ℕ} {rs : List ℕ}
+      → Does (portIn m) o (portIn m′) r → Called m′ kept ds m″ rs → Called m kept (does o ∷ ds) m″ (r ∷ rs)
+  saves : {m m″ : Memory} {kept : List SavedMemory} {ds : List Deed} {waiting saved′ waiting′ : List ℕ} {r : ℕ} {rs : List ℕ}
       → Saves (m .regs) (m .pos) (m .ring) waiting saved′ waiting′ r
-      → Called m (record { regs = saved′; waiting = take r waiting′ } ∷ kept) ds m″ → Called m kept (save ∷ ds) m″
-  restores : {m m′ m″ : Memory} {kept : List Written} {ds : List Deed} {r : ℕ} (n : ℕ) (other : Written)
-      → n < length kept → Brought m (getD kept n other) m′ r → Called m′ kept ds m″ → Called m kept (restore n ∷ ds) m″
-  brings : {m m′ m″ : Memory} {kept : List Written} {ds : List Deed} {r : ℕ} (w : Written)
-      → Brought m w m′ r → Called m′ kept ds m″ → Called m kept (bring (savedIn w) ∷ ds) m″
+      → Called m (record { regs = saved′; waiting = take r waiting′ } ∷ kept) ds m″ rs → Called m kept (save ∷ ds) m″ (r ∷ rs)
+  restores : {m m′ m″ : Memory} {kept : List SavedMemory} {ds : List Deed} {r : ℕ} {rs : List ℕ} (n : ℕ) (other : SavedMemory)
+      → n < length kept → Brought m (getD kept n other) m′ r → Called m′ kept ds m″ rs → Called m kept (restore n ∷ ds) m″ (r ∷ rs)
+  brings : {m m′ m″ : Memory} {kept : List SavedMemory} {ds : List Deed} {r : ℕ} {rs : List ℕ} (w : SavedMemory)
+      → Brought m w m′ r → Called m′ kept ds m″ rs → Called m kept (bring (savedIn w) ∷ ds) m″ (r ∷ rs)
+
+-- What a restore's word says of refusal and raises.
+pub record Tells (o : Restore) (r : ℕ) : Type 0 where
+  pub refusal : r / 0x1_0000 % 2 ≡ cond (o .refused) 1 0
+  pub raises : r / 0x2_0000 ≡ o .raises
+
+-- The words of the deeds by the definition: an operation's is its answer's, that of saving is how many bytes wait.
+abbrev pub Heard : Host → List Deed → List ℕ → Type 0
+Heard h [] rs = rs ≡ []
+Heard h (d ∷ ds) [] = ⊥
+Heard h (does o ∷ ds) (r ∷ rs) = (r ≡ word (step (h .here .port) o .answer)) × Heard (next h (does o)) ds rs
+Heard h (save ∷ ds) (r ∷ rs) = (r ≡ length (h .here .port .waiting)) × Heard (next h save) ds rs
+Heard h (restore n ∷ ds) (r ∷ rs) = Tells (restoreOf (h .here .port) (getD (h .kept) n (h .here) .port)) r × Heard (next h (restore n)) ds rs
+Heard h (bring p ∷ ds) (r ∷ rs) = Tells (restoreOf (h .here .port) p) r × Heard (next h (bring p)) ds rs

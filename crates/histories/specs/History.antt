@@ -1,6 +1,7 @@
 -- A port that its host writes down and brings back while it runs: which operations still count.
-use Prim.Native.Nat.{ℕ}
-use mathlib.Core.Bool.{cond}
+use Prim.Native.Nat.{ℕ, suc}
+use mathlib.Core.Path.{_≡_}
+use mathlib.Core.Bool.{true, cond}
 use mathlib.Core.List.{List, [], _∷_, _++_}
 use lib.ListN.{getD}
 use Rattle.serial.specs.Port.{Port}
@@ -53,15 +54,18 @@ unfoldable pub after : Host → List Deed → Host
 after h [] = h
 after h (d ∷ ds) = after (next h d) ds
 
--- The operations alone, as deeds.
-abbrev pub doing : List Op → List Deed
-doing [] = []
-doing (o ∷ os) = does o ∷ doing os
+-- How many ports the host keeps by these deeds.
+abbrev pub savesIn : List Deed → ℕ
+savesIn [] = 0
+savesIn (does o ∷ ds) = savesIn ds
+savesIn (save ∷ ds) = suc (savesIn ds)
+savesIn (restore n ∷ ds) = savesIn ds
+savesIn (bring p ∷ ds) = savesIn ds
 
--- Whatever comes from outside has a property: the operations, the ports from elsewhere.
+-- Whatever comes from outside has a property: the operations, and the ports from elsewhere, where they are not refused.
 abbrev pub Each : (Op → Type 0) → (Port → Type 0) → List Deed → Type 0
 Each O P [] = Unit {0}
 Each O P (does o ∷ ds) = O o × Each O P ds
 Each O P (save ∷ ds) = Each O P ds
 Each O P (restore n ∷ ds) = Each O P ds
-Each O P (bring p ∷ ds) = P p × Each O P ds
+Each O P (bring p ∷ ds) = (fits p ≡ true → P p) × Each O P ds

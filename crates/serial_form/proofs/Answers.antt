@@ -13,7 +13,7 @@ use Rattle.common.specs.Forms.{Reason, tooMany, refusalWord}
 use Rattle.serial_form.specs.Form.{Read, refused, current, capacity, formOf, registersIn, readBehind}
 use Rattle.serial_form.specs.Calls.{written, Encodes, Decodes}
 use Rattle.serial_form.proofs.RoundTrip.{form-length}
-use Rattle.serial_form.proofs.Reading.{come-out-even}
+use Rattle.serial_form.proofs.Reading.{none-left}
 
 -- Stores from the first byte on.
 pub sets-first : (bytes memory : List ℕ) → length bytes ≤ length memory → sets memory 0 bytes ≡ written bytes memory
@@ -80,7 +80,7 @@ module _ (n : ℕ) (form saved waiting : List ℕ) {saved′ waiting′ : List �
       let nine : length (registersIn form) ≡ length saved = simp (length-take, length-drop) (omega arith) in
       let room : length (drop 13 form) ≤ length waiting = omega arith in
       let all : length (drop 13 form) ≤ length form - 13 = omega arith in
-      rw (come-out-even n form h e)
+      rw (none-left n form h e)
       (record {
         answer = sym behind;
         registers = p ∙ sets-all (registersIn form) saved nine;

@@ -27,9 +27,9 @@ module _ (n : ℕ) (form : List ℕ) where
   unfolding readBehind
   left-over h l = let m : 13 + n ≤ length form = omega arith in rw (le-ltb _ _ h, le-ltb _ _ m, lt-ltb _ _ l)
 
-  pub come-out-even : n ≤ capacity → length form ≡ 13 + n → readBehind n form ≡ reads (registersIn form) (drop 13 form)
+  pub none-left : n ≤ capacity → length form ≡ 13 + n → readBehind n form ≡ reads (registersIn form) (drop 13 form)
   unfolding readBehind
-  come-out-even h e =
+  none-left h e =
       let m : 13 + n ≤ length form = omega arith in
       let l : length form ≤ 13 + n = omega arith in
       rw (le-ltb _ _ h, le-ltb _ _ m, le-ltb _ _ l)

@@ -13,8 +13,8 @@ use Rattle.common.specs.Bytes.{bytesOf, valueOf, Bytes}
 use Rattle.common.proofs.Bytes.{bytes-drop, bytes-of-value}
 use Rattle.serial_form.specs.Form.{Read, refused, reads, current, capacity, formOf, versionIn, registersIn, countIn, readBehind, readForm}
 use Rattle.serial_form.specs.Calls.{written, Encodes, Decodes}
-use Rattle.serial_form.specs.Outcomes.{Comes, noVersion, otherVersion, cutOff, tooManyWait, tooFew, leftOver, even}
-use Rattle.serial_form.proofs.Reading.{too-many, too-few, left-over, come-out-even, no-count, counted, no-version, known-version, other-version}
+use Rattle.serial_form.specs.Outcomes.{Comes, noVersion, otherVersion, cutOff, tooManyWait, tooFew, leftOver, whole}
+use Rattle.serial_form.proofs.Reading.{too-many, too-few, left-over, none-left, no-count, counted, no-version, known-version, other-version}
 
 -- ---- What reading comes to, exactly
 
@@ -30,7 +30,7 @@ module _ (form : List ℕ) where
   only-so (tooManyWait h v n) = counts h v ∙ too-many _ form n
   only-so (tooFew h v n l) = counts h v ∙ too-few _ form n l
   only-so (leftOver v n l) = counts (omega arith) v ∙ left-over _ form n l
-  only-so (even v n e) = counts (omega arith) v ∙ come-out-even _ form n e
+  only-so (whole v n e) = counts (omega arith) v ∙ none-left _ form n e
 
   -- and of any bytes one of the conditions holds: they are refused with its reason, or read.
   pub comes : Comes form (readForm form)
@@ -44,7 +44,7 @@ module _ (form : List ℕ) where
       behind h v (yes n) l m = by (tooManyWait h v n)
       behind h v (no n) (yes l) m = by (tooFew h v (omega arith) l)
       behind h v (no n) (no l) (yes m) = by (leftOver v (omega arith) m)
-      behind h v (no n) (no l) (no m) = by (even v (omega arith) (omega arith))
+      behind h v (no n) (no l) (no m) = by (whole v (omega arith) (omega arith))
 
       fixed : 2 ≤ length form → versionIn form ≡ current → Dec (length form < 13) → Comes form (readForm form)
       fixed h v (yes l) = by (cutOff h v l)
@@ -88,7 +88,7 @@ module _ (registers waiting : List ℕ) (nine : length registers ≡ 9) where
       let long = form-length registers waiting nine in
       let few : countIn (formOf registers waiting) ≤ capacity = rw (count-back h) h in
       let all : length (formOf registers waiting) ≡ 13 + countIn (formOf registers waiting) = rw (count-back h) long in
-      only-so (formOf registers waiting) (even version-back few all) ∙ ap₂ reads registers-back waiting-back
+      only-so (formOf registers waiting) (whole version-back few all) ∙ ap₂ reads registers-back waiting-back
 
 -- ---- What is read is a state, and it is written as the same bytes
 
@@ -99,14 +99,14 @@ two-back (x ∷ y ∷ l) h (p, (q, b)) = bytes-of-value (x ∷ y ∷ []) (p, (q,
 
 module _ (form : List ℕ) where
   fits : {registers waiting : List ℕ} → Comes form (reads registers waiting) → (length registers ≡ 9) × (length waiting ≤ capacity)
-  fits (even v n e) = (simp (length-take, length-drop) (omega arith), simp length-drop (omega arith))
+  fits (whole v n e) = (simp (length-take, length-drop) (omega arith), simp length-drop (omega arith))
 
   agrees : {registers waiting : List ℕ} → Comes form (reads registers waiting) → length form ≡ 13 + length waiting
-  agrees (even v n e) = simp length-drop (omega arith)
+  agrees (whole v n e) = simp length-drop (omega arith)
 
   same : {registers waiting : List ℕ} → Bytes form → Comes form (reads registers waiting) → formOf registers waiting ≡ form
   unfolding formOf
-  same b (even v n e) =
+  same b (whole v n e) =
       let count : length (drop 13 form) ≡ countIn form = simp length-drop (omega arith) in
       let number : 2 ≤ length (drop 11 form) = simp length-drop (omega arith) in
       let front : bytesOf 2 current ≡ take 2 form = rw v at (two-back form (omega arith) b) in
@@ -126,17 +126,37 @@ module _ (form registers waiting : List ℕ) (read : readForm form ≡ reads reg
   pub written-read : Bytes form → formOf registers waiting ≡ form
   written-read b = same form b outcome
 
--- ---- Two calls: what one has written into memory with room for it, the other reads back
+-- ---- Two calls
 
-module _ (saved waiting form : List ℕ) (nine : length saved ≡ 9) (few : length waiting ≤ capacity) where
-  pub there-and-back : {form′ saved₀ waiting₀ saved₁ waiting₁ : List ℕ} {r n : ℕ}
-      → Encodes saved waiting form form′ r → r ≤ length form → Decodes (readForm (take r form′)) saved₀ waiting₀ saved₁ waiting₁ n
-      → (n ≡ length waiting) × ((saved₁ ≡ saved) × (waiting₁ ≡ written waiting waiting₀))
-  there-and-back {form′} {saved₀} {waiting₀} {saved₁} {waiting₁} {r} {n} w enough d =
-      let bytes = formOf saved waiting in
-      let answer : r ≡ length bytes = rw (le-leb _ _ few) at (w .answer) in
-      let room : length bytes ≤ length form = omega arith in
-      let memory : form′ ≡ written bytes form = rw (le-leb _ _ few, le-leb _ _ room) at (w .memory) in
-      let first : take r form′ ≡ bytes = rw (answer, memory) (take-append-seam bytes (drop (length bytes) form)) in
-      let back : Decodes (reads saved waiting) saved₀ waiting₀ saved₁ waiting₁ n = rw (first, read-written saved waiting nine few) at d in
-      (back .answer, (back .registers, back .bytes))
+-- Where there is room for the form it lies first.
+encoded : {saved waiting form form′ : List ℕ} {r : ℕ} → length waiting ≤ capacity → Encodes saved waiting form form′ r → r ≤ length form
+    → (r ≡ length (formOf saved waiting)) × (take r form′ ≡ formOf saved waiting)
+encoded {saved} {waiting} {form} {form′} {r} few w enough =
+    let bytes = formOf saved waiting in
+    let answer : r ≡ length bytes = rw (le-leb _ _ few) at (w .answer) in
+    let room : length bytes ≤ length form = omega arith in
+    let memory : form′ ≡ written bytes form = rw (le-leb _ _ few, le-leb _ _ room) at (w .memory) in
+    (answer, rw (answer, memory) (take-append-seam bytes (drop (length bytes) form)))
+
+-- What one has written into memory with room for it, the other reads back.
+pub there-and-back : {saved waiting form form′ saved₀ waiting₀ saved₁ waiting₁ : List ℕ} {r n : ℕ} → length saved ≡ 9 → length waiting ≤ capacity
+    → Encodes saved waiting form form′ r → r ≤ length form → Decodes (readForm (take r form′)) saved₀ waiting₀ saved₁ waiting₁ n
+    → (n ≡ length waiting) × ((saved₁ ≡ saved) × (waiting₁ ≡ written waiting waiting₀))
+there-and-back {saved} {waiting} {saved₀ = saved₀} {waiting₀ = waiting₀} {saved₁ = saved₁} {waiting₁ = waiting₁} {n = n} nine few w enough d =
+    let first = encoded few w enough .1 in
+    let back : Decodes (reads saved waiting) saved₀ waiting₀ saved₁ waiting₁ n = rw (first, read-written saved waiting nine few) at d in
+    (back .answer, (back .registers, back .bytes))
+
+-- What one has read, the other writes again to the same bytes. A number that may wait is no refusal.
+pub back-and-there : {form saved₀ waiting₀ saved waiting memory memory′ : List ℕ} {n r : ℕ} → Bytes form
+    → Decodes (readForm form) saved₀ waiting₀ saved waiting n → n ≤ capacity
+    → Encodes saved (take n waiting) memory memory′ r → r ≤ length memory → (r ≡ length form) × (take r memory′ ≡ form)
+back-and-there {form} {saved₀} {waiting₀} {saved} {waiting} {memory} {memory′} {n} {r} b d few w enough = go (readForm form) refl d
+  where
+    go : (o : Read) → readForm form ≡ o → Decodes o saved₀ waiting₀ saved waiting n → (r ≡ length form) × (take r memory′ ≡ form)
+    go (refused reason) e d = let k = d .answer in absurd (omega arith)
+    go (reads registers waits) e d =
+        let same : take n waiting ≡ waits = rw (d .answer, d .bytes) (take-append-seam waits (drop (length waits) waiting₀)) in
+        let form-of : formOf saved (take n waiting) ≡ form = rw (d .registers, same) (written-read form registers waits e b) in
+        let there = encoded (rw (same, ← d .answer) few) w enough in
+        (there .0 ∙ ap length form-of, there .1 ∙ form-of)

@@ -14,5 +14,5 @@ pub data Comes (form : List ℕ) : Read → Type 0 where
   tooFew : 13 ≤ length form → versionIn form ≡ current → countIn form ≤ capacity → length form < 13 + countIn form
       → Comes form (refused tooShort)
   leftOver : versionIn form ≡ current → countIn form ≤ capacity → 13 + countIn form < length form → Comes form (refused trailing)
-  even : versionIn form ≡ current → countIn form ≤ capacity → length form ≡ 13 + countIn form
+  whole : versionIn form ≡ current → countIn form ≤ capacity → length form ≡ 13 + countIn form
       → Comes form (reads (registersIn form) (drop 13 form))

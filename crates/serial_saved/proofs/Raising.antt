@@ -11,14 +11,14 @@ use Rattle.serial.specs.Layout.{portOf}
 use Rattle.serial.specs.Port.{Port}
 use Rattle.runs.specs.Told.{Source, receiver, transmitter}
 use Rattle.serial_saved.specs.Inside.{Raised}
-use Rattle.serial_saved.specs.Saved.{savedOf, isTold, only, raisedAgain}
+use Rattle.serial_saved.specs.Saved.{savedOf, isTold, ifTold, raisedAgain}
 
 -- Once for each of the two that is told, and so twice at most.
 counted : (p : Port) → (length (raisedAgain p) ≡ cond (isTold p transmitter) 1 0 + cond (isTold p receiver) 1 0) × (length (raisedAgain p) ≤ 2)
 unfolding raisedAgain
 counted p = go (isTold p transmitter) (isTold p receiver)
   where
-    go : (a b : Bool) → let l = only a transmitter ++ only b receiver in (length l ≡ cond a 1 0 + cond b 1 0) × (length l ≤ 2)
+    go : (a b : Bool) → let l = ifTold a transmitter ++ ifTold b receiver in (length l ≡ cond a 1 0 + cond b 1 0) × (length l ≤ 2)
     go true true = (refl, omega arith)
     go true false = (refl, omega arith)
     go false true = (refl, omega arith)

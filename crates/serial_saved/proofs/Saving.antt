@@ -15,9 +15,10 @@ use Rattle.serial.specs.Port.{Port}
 use Rattle.serial.specs.Layout.{capacity, portOf}
 use Rattle.runs.specs.Run.{Op, run}
 use Rattle.runs.specs.Told.{Source, receiver, transmitter, enabled, marked}
-use Rattle.runs.specs.Reachable.{Reachable}
+use Rattle.runs.specs.Reachable.{Reachable, Reached}
+use Rattle.runs.proofs.Exact.{exact}
 use Rattle.runs.proofs.Isolation.{memory-fits}
-use Rattle.serial_saved.specs.Saved.{savedOf, isTold, only, raisedAgain, Restore, restoreOf}
+use Rattle.serial_saved.specs.Saved.{savedOf, isTold, ifTold, raisedAgain, Restore, restoreOf}
 use Rattle.serial_saved.specs.Calls.{Saves, restoreWord, Restores}
 use Rattle.serial_saved.proofs.Raising.{at-most-two}
 use Rattle.serial_saved.proofs.Bringing.{too-many, enough}
@@ -51,6 +52,12 @@ module _ {regs pos ring saved waiting regs′ pos′ ring′ : List ℕ} {r : �
   reachable-exactly =
       let t = one (b .reachable) in
       (λ e. b .exact .0 (t .0 (sym (parts .0) ∙ e)), λ k. parts .0 ∙ t .1 (b .exact .1 k))
+
+  -- (so it says it of a state exactly if some run of bytes from a fresh port comes to it),
+  pub reached-exactly : (r % 0x1_0000 ≡ 1) ↔ Reached capacity (savedOf saved waiting)
+  reached-exactly =
+      let e = exact capacity (savedOf saved waiting) in
+      (λ h. e .0 (reachable-exactly .0 h), λ k. reachable-exactly .1 (e .1 k))
 
   -- .. and "refused" exactly where more bytes wait than there is room for. Then nothing is raised, and else each source that is told.
   pub not-refused : length waiting ≤ capacity → (r / 0x1_0000 % 2 ≡ 0) × (r / 0x2_0000 ≡ length (raisedAgain (savedOf saved waiting)))
@@ -103,13 +110,13 @@ both-true : (a b : Bool) → ((a && b) ≡ true) ↔ ((a ≡ true) × (b ≡ tru
 both-true true b = (λ e. (refl, e), λ e. e .1)
 both-true false b = (λ e. absurd (false≢true e), λ e. e .0)
 
-in-only : (told : Bool) (x s : Source) → List·Memᴰ s (only told x) → (s ≡ x) × (told ≡ true)
-in-only true x s m = (List·Memᴰ·eq-of-singleton m, refl)
-in-only false x s m = absurd (List·Memᴰ·not-nil m)
+in-told : (told : Bool) (x s : Source) → List·Memᴰ s (ifTold told x) → (s ≡ x) × (told ≡ true)
+in-told true x s m = (List·Memᴰ·eq-of-singleton m, refl)
+in-told false x s m = absurd (List·Memᴰ·not-nil m)
 
-only-in : (told : Bool) (x : Source) → told ≡ true → List·Memᴰ x (only told x)
-only-in true x e = List·Memᴰ·head refl
-only-in false x e = absurd (false≢true e)
+told-in : (told : Bool) (x : Source) → told ≡ true → List·Memᴰ x (ifTold told x)
+told-in true x e = List·Memᴰ·head refl
+told-in false x e = absurd (false≢true e)
 
 apart : transmitter ≡ receiver → ⊥
 apart e = let z : _≡_ {A = ℕ} 0 1 = cc in omega arith
@@ -117,25 +124,25 @@ apart e = let z : _≡_ {A = ℕ} 0 1 = cc in omega arith
 module _ (p : Port) where
   raised-told : (s : Source) → List·Memᴰ s (raisedAgain p) → isTold p s ≡ true
   unfolding raisedAgain
-  raised-told s m = go (List·Memᴰ·append-cases (only (isTold p transmitter) transmitter) m)
+  raised-told s m = go (List·Memᴰ·append-cases (ifTold (isTold p transmitter) transmitter) m)
     where
       like : (x : Source) → (s ≡ x) × (isTold p x ≡ true) → isTold p s ≡ true
       like x k = subst (λ (y : Source). isTold p y ≡ true) (sym (k .0)) (k .1)
 
-      go : List·Memᴰ s (only (isTold p transmitter) transmitter) ⊎ List·Memᴰ s (only (isTold p receiver) receiver) → isTold p s ≡ true
-      go (inl m) = like transmitter (in-only (isTold p transmitter) transmitter s m)
-      go (inr m) = like receiver (in-only (isTold p receiver) receiver s m)
+      go : List·Memᴰ s (ifTold (isTold p transmitter) transmitter) ⊎ List·Memᴰ s (ifTold (isTold p receiver) receiver) → isTold p s ≡ true
+      go (inl m) = like transmitter (in-told (isTold p transmitter) transmitter s m)
+      go (inr m) = like receiver (in-told (isTold p receiver) receiver s m)
 
   told-raised : (s : Source) → isTold p s ≡ true → List·Memᴰ s (raisedAgain p)
   unfolding raisedAgain
-  told-raised transmitter e = Memᴰ·append-left (only (isTold p receiver) receiver) (only-in (isTold p transmitter) transmitter e)
-  told-raised receiver e = Memᴰ·append-right (only (isTold p transmitter) transmitter) (only-in (isTold p receiver) receiver e)
+  told-raised transmitter e = Memᴰ·append-left (ifTold (isTold p receiver) receiver) (told-in (isTold p transmitter) transmitter e)
+  told-raised receiver e = Memᴰ·append-right (ifTold (isTold p transmitter) transmitter) (told-in (isTold p receiver) receiver e)
 
   none-twice : List·Nodup (raisedAgain p)
   unfolding raisedAgain
   none-twice = go (isTold p transmitter) (isTold p receiver)
     where
-      go : (a b : Bool) → List·Nodup (only a transmitter ++ only b receiver)
+      go : (a b : Bool) → List·Nodup (ifTold a transmitter ++ ifTold b receiver)
       go true true = nodup-cons .1 (λ m. ∥∥₁-elim m ⊥-prop (λ d. apart (List·Memᴰ·eq-of-singleton d)), nodup-cons .1 (not-mem-nil, nodup-nil))
       go true false = nodup-cons .1 (not-mem-nil, nodup-nil)
       go false true = nodup-cons .1 (not-mem-nil, nodup-nil)
@@ -148,3 +155,8 @@ module _ (p : Port) where
     λ s. let t = both-true (enabled p s) (marked p s) in (λ m. t .0 (raised-told s m), λ k. told-raised s (t .1 k)),
     (none-twice, at-most-two p),
   )
+
+  -- Where both are, the transmitter is the first.
+  pub transmitter-first : isTold p transmitter ≡ true → isTold p receiver ≡ true → raisedAgain p ≡ transmitter ∷ receiver ∷ []
+  unfolding raisedAgain
+  transmitter-first t r = rw (t, r)

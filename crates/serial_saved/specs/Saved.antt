@@ -16,11 +16,11 @@ savedOf regs waiting = let p = portOf regs [] [] in withReceiver p (p .iir) (p .
 abbrev pub isTold : Port → Source → Bool
 isTold p s = enabled p s && marked p s
 
-abbrev pub only : Bool → Source → List Source
-only told s = cond told (s ∷ []) []
+abbrev pub ifTold : Bool → Source → List Source
+ifTold told s = cond told (s ∷ []) []
 
 unfoldable pub raisedAgain : Port → List Source
-raisedAgain p = only (isTold p transmitter) transmitter ++ only (isTold p receiver) receiver
+raisedAgain p = ifTold (isTold p transmitter) transmitter ++ ifTold (isTold p receiver) receiver
 
 -- What bringing back does: the port after it, whether it was refused, how often the interrupt is raised.
 pub record Restore : Type 0 where
