@@ -1,4 +1,4 @@
--- The ports that runs from a fresh one reach. What may be restored later is one of these.
+-- The ports that runs from a fresh one reach. A restore tells these from others.
 use Prim.Native.Nat.{ℕ, _<_, _≤_}
 use mathlib.Core.Path.{_≡_}
 use mathlib.Core.Bool.{true, false, cond}
