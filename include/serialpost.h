@@ -108,7 +108,8 @@ uint32_t serialpost_serial_save(const uint8_t regs[9], const uint32_t pos[2], co
 
 /* Brings a port back into any memory. Answers how often to raise the interrupt, once for each kind that is enabled
  * and marked, since the line of a new host may never have seen it; and whether a run from a fresh port could have
- * come to this state. One that no run comes to is brought back all the same: whether to go on is yours to say.
+ * come to this state. One that no run comes to is brought back all the same: whether to go on is yours to say. It may
+ * have been written down by vm-superio before 0.8.2, which comes to such states, or by a port that was brought back so.
  * Refused: more than 64 bytes. */
 uint32_t serialpost_serial_restore(uint8_t regs[9], uint32_t pos[2], uint8_t ring[64], const uint8_t saved[9],
                                    const uint8_t *waiting, size_t length);

@@ -98,7 +98,7 @@ static void any_save(struct port port, struct port kept)
     EXPECT(is(port, &before) && memcmp(kept.regs, port.regs, 9) == 0 && memcmp(kept.ring, waiting, 64) == 0);
 }
 
-/* Registers to be brought back: any, or half of the time such as a run may leave where `length` bytes wait. */
+/* Registers to be brought back: any, or half of the time such as a run may leave where `length` bytes wait, or nearly. */
 static void any_saved(uint8_t regs[9], size_t length)
 {
     any_bytes(regs, 9);
@@ -108,6 +108,19 @@ static void any_saved(uint8_t regs[9], size_t length)
     regs[SERIALPOST_IIR] = once_in(2) ? 0x01 : (uint8_t)(any() % 4 * 2);
     regs[SERIALPOST_LSR] = length == 0 ? 0x60 : 0x61;
     regs[SERIALPOST_MSR] = 0xb0;
+    if (once_in(4))
+        regs[any() % 9] ^= (uint8_t)(1 << any() % 8);
+}
+
+/* Whether a run comes to these registers while `length` bytes wait: crates/runs/specs/Reachable.antt. */
+static bool run_leaves_port(const uint8_t regs[9], size_t length)
+{
+    uint8_t enabled = regs[SERIALPOST_IER], marked = regs[SERIALPOST_IIR];
+    bool marks = marked == 1 || marked == 2 || (length > 0 && (marked == 4 || marked == 6));
+    bool transmitter_read = (enabled & 3) != 2 || marked != 4;
+    bool receiver_read = (enabled & 3) != 1 || marked != 2 || length < 64;
+    return enabled < 16 && marks && transmitter_read && receiver_read && regs[SERIALPOST_LSR] == (length > 0 ? 0x61 : 0x60)
+           && regs[SERIALPOST_MSR] == 0xb0;
 }
 
 /* Brings a port back. Answers whether a run could have come to it. */
@@ -125,10 +138,8 @@ static bool any_restore(struct port port, struct port kept, struct fenced input)
     }
     uint8_t enabled = regs[SERIALPOST_IER], marked = regs[SERIALPOST_IIR];
     uint32_t raises = ((enabled & 2) && (marked & 2)) + ((enabled & 1) && (marked & 4));
-    bool reached = SERIALPOST_REACHED(answer);
-    bool marks = marked == 1 || marked == 2 || (length > 0 && (marked == 4 || marked == 6));
+    bool reached = run_leaves_port(regs, length);
     EXPECT(answer == raises * 0x20000 + reached);
-    EXPECT(!reached || (enabled < 16 && marks && regs[SERIALPOST_LSR] == 0x60 + (length > 0) && regs[SERIALPOST_MSR] == 0xb0));
     EXPECT(serialpost_serial_save(port.regs, port.pos, port.ring, again.regs, again.ring) == length);
     EXPECT(memcmp(again.regs, regs, 9) == 0 && memcmp(again.ring, waiting, length) == 0);
     return reached;
@@ -266,6 +277,13 @@ static void any_clock(bool at_end)
     }
 }
 
+/* Whether a run comes to this clock: crates/clock_saved/specs/Reachable.antt. */
+static bool run_leaves_clock(const struct serialpost_clock *clock)
+{
+    int64_t ahead = (int64_t)((uint64_t)clock->offset_high << 32 | clock->offset_low), load = clock->load;
+    return clock->mask < 2 && clock->raw_status == 0 && ahead <= load && ahead > load - 0x100000000;
+}
+
 static void any_saved_clock(bool at_end)
 {
     struct serialpost_clock *clock = lent(fence(at_end), sizeof *clock), *saved = lent(fence(at_end), sizeof *saved), before;
@@ -276,7 +294,8 @@ static void any_saved_clock(bool at_end)
         if (once_in(2))
             *saved = (struct serialpost_clock){ any() % 8, any(), any() % 3, any() % 2, any() % 8, 0 - any() % 2 };
         before = *saved;
-        reached += serialpost_clock_restore(clock, saved);
+        EXPECT(serialpost_clock_restore(clock, saved) == run_leaves_clock(&before));
+        reached += run_leaves_clock(&before);
         EXPECT(memcmp(clock, &before, sizeof before) == 0 && memcmp(saved, &before, sizeof before) == 0);
         any_bytes(saved, sizeof *saved);
         serialpost_clock_save(clock, saved);

@@ -5,12 +5,16 @@
  * pages that may not be touched.
  *
  *   forms [COUNT [SEED]]
+ *
+ * Fewer than LEAST_COUNT are refused, since each answer must be met often, and so is what is no number: exit status 2.
  */
 #include "any.h"
 #include "forms.h"
+#include <errno.h>
 
 #define LONGEST 100
 #define REASONS 6
+#define LEAST_COUNT 1000
 
 /* A written-down device; a port's waiting bytes may be more than there is room for. */
 struct state {
@@ -211,11 +215,32 @@ static void forms_of(const struct device *device, unsigned long count)
     }
 }
 
+/* ---- The command line */
+
+static void unusable(const char *word, const char *why)
+{
+    fprintf(stderr, "forms: %s %s\nusage: forms [COUNT [SEED]], COUNT %d or more\n", word, why, LEAST_COUNT);
+    exit(2);
+}
+
+static unsigned long number(const char *word)
+{
+    errno = 0;
+    unsigned long value = strtoul(word, NULL, 10);
+    if (word[0] == '\0' || word[strspn(word, "0123456789")] != '\0' || errno != 0)
+        unusable(word, "is no number of 64 bits");
+    return value;
+}
+
 int main(int arguments, char **argument)
 {
-    unsigned long count = arguments > 1 ? strtoul(argument[1], NULL, 10) : 100000;
+    unsigned long count = arguments > 1 ? number(argument[1]) : 100000;
+    if (count < LEAST_COUNT)
+        unusable(argument[1], "forms are too few to meet each answer");
     if (arguments > 2)
-        seed = strtoul(argument[2], NULL, 10);
+        seed = number(argument[2]);
+    if (arguments > 3)
+        unusable(argument[3], "is one word too many");
     printf("%lu forms, seed %lu\n", count, (unsigned long)seed);
     forms_of(&serial_port, count / 2);
     forms_of(&a_clock, count / 2);

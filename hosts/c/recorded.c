@@ -5,7 +5,8 @@
  *   DEVICE FORM => ANSWER   the state in the words of docs/REPLAY.md, or the reason
  *
  * An empty line and a line that begins with # stay as they are, so that a file of recorded forms must come out as it
- * is. Our own reader must give the same, and a state that was read is written again as the same bytes.
+ * is. Our own reader must give the same, and a state that was read is written again as the same bytes. Any other line
+ * ends the program with the exit status 2.
  */
 #include "expect.h"
 #include "forms.h"
@@ -14,13 +15,25 @@
 
 static const char *const reasons[] = { NULL, "too short", "trailing", "version", "too many", "offset" };
 
+static unsigned long lines; /* up to the one that is being read */
+
+static void unusable(const char *why)
+{
+    fflush(stdout);
+    fprintf(stderr, "recorded: line %lu: %s\n", lines, why);
+    exit(2);
+}
+
 /* Reads hex digits up to a space or the line's end. Answers how many bytes they are. */
 static size_t bytes_of(const char *digits, uint8_t bytes[LONGEST])
 {
     size_t length = strcspn(digits, " \n"), count = 0;
     if (length == 1 && digits[0] == '-')
         return 0;
-    EXPECT(length > 0 && length % 2 == 0 && length <= 2 * LONGEST && strspn(digits, "0123456789abcdef") == length);
+    if (length > 2 * LONGEST)
+        unusable("too long for a form");
+    if (length == 0 || length % 2 != 0 || strspn(digits, "0123456789abcdef") < length)
+        unusable("no form in hex");
     for (; 2 * count < length; count++) {
         unsigned byte;
         EXPECT(sscanf(digits + 2 * count, "%2x", &byte) == 1);
@@ -80,18 +93,27 @@ static void answer(const struct device *device, const char *digits)
         print_clock(&saved);
 }
 
+static bool ends(const char *part)
+{
+    return strchr(part, '\n') != NULL;
+}
+
 int main(void)
 {
     char line[1024];
-    while (fgets(line, sizeof line, stdin) != NULL) {
-        if (line[0] == '\n' || line[0] == '#')
+    for (lines = 1; fgets(line, sizeof line, stdin) != NULL; lines++) {
+        if (line[0] == '\n' || line[0] == '#') {
             fputs(line, stdout);
+            while (!ends(line) && fgets(line, sizeof line, stdin) != NULL)
+                fputs(line, stdout);
+        } else if (strlen(line) == sizeof line - 1 && !ends(line))
+            unusable("too long for a form");
         else if (strncmp(line, "serial ", 7) == 0)
             answer(&serial_port, line + 7);
         else if (strncmp(line, "clock ", 6) == 0)
             answer(&a_clock, line + 6);
         else
-            EXPECT(!"a line for a device");
+            unusable("for no device");
     }
     return 0;
 }

@@ -272,14 +272,17 @@ const CLOCK_FORM_SIZE: usize = 26;
 
 /// The answer to reading or writing a form: a number, or why there is none.
 fn form_answer(answer: u32) -> Result<usize, FormError> {
-    match answer {
-        0x1_0001 => Err(FormError::TooShort),
-        0x1_0002 => Err(FormError::TrailingBytes),
-        0x1_0003 => Err(FormError::Version),
-        0x1_0004 => Err(FormError::TooManyBytes),
-        0x1_0005 => Err(FormError::Offset),
-        number => Ok(number as usize),
+    if answer & 0x1_0000 == 0 {
+        return Ok(answer as usize);
     }
+    Err(match answer {
+        0x1_0001 => FormError::TooShort,
+        0x1_0002 => FormError::TrailingBytes,
+        0x1_0003 => FormError::Version,
+        0x1_0004 => FormError::TooManyBytes,
+        0x1_0005 => FormError::Offset,
+        other => unreachable!("{other:#x} is no reason of the library"),
+    })
 }
 
 /// The form of a port that was written down.

@@ -37,8 +37,9 @@ pub struct RtcState {
 }
 
 impl RtcState {
-    /// Whether a guest could have brought a fresh clock to this state, whatever the host's time was. Anything else
-    /// was changed on its way, or written down by another program: [`Rtc::from_state`] takes it all the same.
+    /// Whether some run of this clock from a fresh one leaves this state, whatever the host's time was.
+    /// [`Rtc::from_state`] takes any other all the same, and its clock may then be written down as one that no run
+    /// leaves.
     ///
     /// vm-superio does not have this.
     pub fn is_reachable(&self) -> bool {

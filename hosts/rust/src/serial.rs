@@ -50,8 +50,11 @@ pub struct SerialState {
 }
 
 impl SerialState {
-    /// Whether a guest and its host could have brought a fresh port to this state. Anything else was changed on its
-    /// way, or written down by another program: [`Serial::from_state`] takes it all the same.
+    /// Whether some run of this port from a fresh one leaves this state. [`Serial::from_state`] takes any other all
+    /// the same, and its port may then be written down as one that no run leaves.
+    ///
+    /// So may a port of vm-superio before 0.8.2, where a write to the interrupt enable register announces nothing: it
+    /// comes to IER 02 with IIR 04 while a byte waits, for one.
     ///
     /// vm-superio does not have this.
     pub fn is_reachable(&self) -> bool {
@@ -125,7 +128,7 @@ impl Default for SerialState {
 /// Why a call could not do all that it should.
 #[derive(Debug)]
 pub enum Error<E> {
-    /// The interrupt could not be raised. The port has noted it as raised.
+    /// The interrupt could not be raised. The port has noted it as raised; [`Serial::from_state`] gives none then.
     Trigger(E),
     /// The guest's byte could not be written or flushed. It is lost, and the guest is not told.
     IOError(io::Error),
