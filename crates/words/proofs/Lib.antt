@@ -2,3 +2,4 @@ pub mod Putting
 mod Decimals
 mod Digits
 mod Patterns
+mod Pairs

@@ -1,10 +1,8 @@
 -- Decimal numbers of 64 bits.
-use Prim.Native.Nat.{ℕ, _+_, _-_, _*_, _^_}
+use Prim.Native.Nat.{ℕ, zero, suc, _+_, _-_, _*_, _/_, _%_, _^_}
 use mathlib.Core.Bool.{Bool, cond, _&&_}
-use mathlib.Core.List.{List, [], _∷_}
+use mathlib.Core.List.{List, [], _∷_, _++_}
 use lib.Dec.{ltb, leb}
-use Rattle.io.specs.Digits.{digits, Fewest}
-use Rattle.words.specs.Put.{Puts}
 use Rattle.words.specs.declared.decimal.Number.{Number}
 use Rattle.words.specs.declared.decimal.Number.the-variants.{Is, Bad}
 
@@ -31,8 +29,10 @@ unfoldable pub numberOf : List ℕ → Number
 numberOf [] = Bad
 numberOf (c ∷ word) = longer (c ∷ word) (Is 0)
 
--- The digits of a number were put, as few as it takes.
-pub record PutsDecimal (out : List ℕ) (at n : ℕ) (out′ : List ℕ) (r : ℕ) : Type 0 where
-  pub count : ℕ
-  pub fewest : Fewest 10 1 n count
-  pub puts : Puts out at (digits 10 count n) out′ r
+-- The decimal digits of a number, as few as it takes: those of its tenth, and the last one. 20 are enough for 64 bits.
+unfoldable pub decimals : ℕ → ℕ → List ℕ
+decimals zero n = []
+decimals (suc most) n = cond (ltb n 10) ((48 + n) ∷ []) (decimals most (n / 10) ++ ((48 + n % 10) ∷ []))
+
+unfoldable pub decimalOf : ℕ → List ℕ
+decimalOf n = decimals 20 n

@@ -1,8 +1,9 @@
 -- Hexadecimal digits, lower case.
 use Prim.Native.Nat.{ℕ, _+_, _-_, _*_, _/_, _%_}
-use mathlib.Core.Bool.{cond}
+use mathlib.Core.Path.{_≡_}
+use mathlib.Core.Bool.{Bool, true, false, cond, _&&_}
 use mathlib.Core.List.{List, [], _∷_, _++_}
-use lib.ListN.{getD}
+use lib.ListN.{length, getD, take}
 use lib.Dec.{ltb, leb}
 use Rattle.words.specs.declared.hex.Bytes.{Bytes}
 use Rattle.words.specs.declared.hex.Bytes.the-variants.{Are, Bad}
@@ -23,6 +24,27 @@ byteAt line i = byteOf (getD line i 0) (getD line (i + 1) 0)
 unfoldable pub countOf : Bytes → ℕ
 countOf (Are n) = n
 countOf Bad = 0
+
+-- The bytes of digits, two each.
+unfoldable pub bytesOf : List ℕ → List ℕ
+bytesOf [] = []
+bytesOf (high ∷ []) = []
+bytesOf (high ∷ low ∷ rest) = byteOf high low ∷ bytesOf rest
+
+-- Nothing but digits, two by two.
+unfoldable pub arePairs : List ℕ → Bool
+arePairs [] = true
+arePairs (high ∷ []) = false
+arePairs (high ∷ low ∷ rest) = ltb (valueOf high) 16 && (ltb (valueOf low) 16 && arePairs rest)
+
+-- One byte at least, and no more than the memory for them holds.
+unfoldable pub areBytes : List ℕ → Bool
+areBytes digits = ltb 0 (length digits) && (leb (length digits) 8192 && arePairs digits)
+
+-- What is told of digits: how many bytes they make, which lie from the memory's first place on; or that they make none.
+pub record Gives (digits bytes′ : List ℕ) (r : Bytes) : Type 0 where
+  pub told : r ≡ cond (areBytes digits) (Are (length (bytesOf digits))) Bad
+  pub first : take (countOf r) bytes′ ≡ cond (areBytes digits) (bytesOf digits) []
 
 -- The digit of a value below 16.
 unfoldable pub digitOf : ℕ → ℕ

@@ -4,7 +4,8 @@ use crate::put::put;
 ghost use Prim.Native.Nat.{_+_, _≤_};
 ghost use mathlib.Core.Path.{_≡_};
 ghost use lib.ListN.{length, drop};
-ghost use Rattle.words.specs.Decimal.{numberOf, longerBy, PutsDecimal};
+ghost use Rattle.words.specs.Decimal.{numberOf, longerBy, decimalOf};
+ghost use Rattle.words.specs.Put.{Puts};
 
 // What a word says, as a number of 64 bits.
 pub enum Number {
@@ -65,7 +66,7 @@ fn longer_by(n: u64, c: u8) -> Number
 // Puts the digits of `n`, as few as it takes.
 pub fn put_decimal(out: &mut Block, at: usize, n: u32) -> usize
     requires { ⌜ at + 20 ≤ 65536 ⌝ }
-    ensures { λ r. ⌜ PutsDecimal (now (out .entry)) at n (now (out .exit)) r ⌝ }
+    ensures { λ r. ⌜ Puts (now (out .entry)) at (decimalOf n) (now (out .exit)) r ⌝ }
     ensures { λ r. ⌜ r ≤ at + 20 ⌝ }
 {
     let mut digits = [0u8; 20];

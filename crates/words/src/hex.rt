@@ -1,8 +1,8 @@
 // Hexadecimal digits, lower case.
 ghost use Prim.Native.Nat.{_≤_, _<_};
 ghost use mathlib.Core.Path.{_≡_};
-ghost use lib.ListN.{length, getD};
-ghost use Rattle.words.specs.Hex.{valueOf, byteOf, byteAt, digitOf, countOf};
+ghost use lib.ListN.{length, getD, drop};
+ghost use Rattle.words.specs.Hex.{valueOf, byteOf, byteAt, digitOf, countOf, Gives};
 
 // The value of a digit, or 16.
 pub fn value(c: u8) -> u8
@@ -48,6 +48,7 @@ pub enum Bytes {
 // `bytes`.
 pub fn bytes_from(line: &[u8], from: usize, bytes: &mut [u8; 4096]) -> Bytes
     requires { ⌜ from < 65536 ⌝ }
+    ensures { λ r. ⌜ Gives (drop from (now (line .entry))) (now (bytes .exit)) r ⌝ }
     ensures { λ r. ⌜ countOf r ≤ length (now (bytes .exit)) ⌝ }
 {
     page(bytes);

@@ -1,6 +1,6 @@
 -- The digits are those of `io::decimal`.
 -- Assumes nothing.
-use Rattle.words.proofs.Putting.{instead}
+use Rattle.words.proofs.Decimals.{put-fewest}
 use borrow.Author.Needs.{needs}
 use Rattle.words.proofs.decimal.put_decimal.Statement.{statement}
 use Rattle.words.proofs.decimal.put_decimal.Tie as tie
@@ -22,7 +22,7 @@ put-requires c κs = search needs
 
 returns : tie.Need-returns
 returns c =
-    (record { count = c .before .before .before .before .before .decimal .result; fewest = c .before .before .before .before .before .decimal .ensures .1 .0; puts = instead (c .before .before .before .before .before .decimal .ensures .1 .1) (c .put .ensures) }, search needs)
+    (put-fewest (search needs) (c .before .before .before .before .before .decimal .ensures .1 .0) (c .before .before .before .before .before .decimal .ensures .1 .1) (c .put .ensures), search needs)
 
 pub put-decimal-spec : {M : Type 1} → statement M
 put-decimal-spec =
