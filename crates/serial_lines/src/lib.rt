@@ -16,8 +16,18 @@ use words::pattern::fits;
 use words::put::put;
 use words::put::put_byte;
 use words::put::unknown;
-ghost use Prim.Native.Nat.{_+_, _≤_, _<_};
+ghost use Prim.Native.Nat.{ℕ, _+_, _≤_, _<_, min};
 ghost use mathlib.Core.Path.{_≡_};
+ghost use mathlib.Core.List.{List, _++_};
+ghost use lib.ListN.{drop};
+ghost use Rattle.serial.specs.Layout.{capacity, portOf};
+ghost use Rattle.serial.specs.Port.{roomOf};
+ghost use Rattle.serial.specs.Ring.{queue};
+ghost use Rattle.serial_saved.specs.Saved.{savedOf};
+ghost use Rattle.words.specs.Put.{Puts};
+ghost use Rattle.words.specs.Text.{text};
+ghost use Rattle.serial_lines.specs.Answers.{Answers, AnswersLine, asksWith, input, DidRead, DidWrite, DidInput, lends, asks, raisesSay, sentSays, takenSays, roomSays};
+ghost use Rattle.serial_lines.specs.Answers.{nextByte, bytesSay, registersSay, waitingSay, portSays};
 
 // The serial port's state, which the caller lends: its registers, where its waiting bytes start and
 // how many there are, and they.
@@ -52,6 +62,7 @@ pub fn answer(
     at: usize,
 ) -> usize
     requires { ⌜ at + 4096 ≤ 65536 ⌝ }
+    ensures { λ r. ⌜ AnswersLine asks (now (line .entry)) (lends (now (regs .entry)) (now (pos .entry)) (now (ring .entry)) (now (saved .entry)) (now (waiting .entry)) (now (count .entry))) (now (out .entry)) at (lends (now (regs .exit)) (now (pos .exit)) (now (ring .exit)) (now (saved .exit)) (now (waiting .exit)) (now (count .exit))) (now (out .exit)) r ⌝ }
     ensures { λ r. ⌜ r ≤ at + 4096 ⌝ }
 {
     if fits(line, b"w OO VV") {
@@ -85,6 +96,7 @@ fn write(
     at: usize,
 ) -> usize
     requires { ⌜ at + 4096 ≤ 65536 ⌝ }
+    ensures { λ r. ⌜ DidWrite offset value (now (regs .entry)) (now (pos .entry)) (now (ring .entry)) (now (regs .exit)) (now (pos .exit)) (now (ring .exit)) (now (out .entry)) at (now (out .exit)) r ⌝ }
     ensures { λ r. ⌜ r ≤ at + 4096 ⌝ }
 {
     let does = serialpost_serial_write(regs, pos, ring, offset, value);
@@ -102,6 +114,7 @@ fn read(
     at: usize,
 ) -> usize
     requires { ⌜ at + 4096 ≤ 65536 ⌝ }
+    ensures { λ r. ⌜ DidRead offset (now (regs .entry)) (now (pos .entry)) (now (ring .entry)) (now (regs .exit)) (now (pos .exit)) (now (ring .entry)) (now (out .entry)) at (now (out .exit)) r ⌝ }
     ensures { λ r. ⌜ r ≤ at + 4096 ⌝ }
 {
     let reply = serialpost_serial_read(regs, pos, ring, offset);
@@ -113,6 +126,7 @@ fn read(
 // The byte that was sent, behind 256, or a number below that for none.
 fn put_sent(out: &mut Block, at: usize, sent: u32) -> usize
     requires { ⌜ at + 2 ≤ 65536 ⌝ }
+    ensures { λ r. ⌜ Puts (now (out .entry)) at (sentSays sent) (now (out .exit)) r ⌝ }
     ensures { λ r. ⌜ r ≤ at + 2 ⌝ }
 {
     if sent < 256 {
@@ -124,6 +138,7 @@ fn put_sent(out: &mut Block, at: usize, sent: u32) -> usize
 // Ends an answer with the number of interrupts that were raised.
 fn put_raises(out: &mut Block, at: usize, raises: u32) -> usize
     requires { ⌜ at + 22 ≤ 65536 ⌝ }
+    ensures { λ r. ⌜ Puts (now (out .entry)) at (raisesSay raises) (now (out .exit)) r ⌝ }
     ensures { λ r. ⌜ r ≤ at + 22 ⌝ }
 {
     let a = put(out, at, b" ");
@@ -141,6 +156,7 @@ fn input_of(
     at: usize,
 ) -> usize
     requires { ⌜ at + 4096 ≤ 65536 ⌝ }
+    ensures { λ r. ⌜ ((saved waiting : List ℕ) (count : ℕ) → Answers (asksWith (drop 2 (now (line .entry))) input) (lends (now (regs .entry)) (now (pos .entry)) (now (ring .entry)) saved waiting count) (now (out .entry)) at (lends (now (regs .exit)) (now (pos .exit)) (now (ring .exit)) saved waiting count) (now (out .exit)) r) ⌝ }
     ensures { λ r. ⌜ r ≤ at + 4096 ⌝ }
 {
     let mut bytes = io::buffer();
@@ -159,6 +175,7 @@ fn input(
     at: usize,
 ) -> usize
     requires { ⌜ at + 4096 ≤ 65536 ⌝ }
+    ensures { λ r. ⌜ DidInput (now (bytes .entry)) (now (regs .entry)) (now (pos .entry)) (now (ring .entry)) (now (regs .exit)) (now (pos .exit)) (now (ring .exit)) (now (out .entry)) at (now (out .exit)) r ⌝ }
     ensures { λ r. ⌜ r ≤ at + 4096 ⌝ }
 {
     let took = serialpost_serial_input(regs, pos, ring, bytes);
@@ -170,6 +187,7 @@ fn input(
 // How many bytes were taken, or a number from 0x1_0000 on for a full buffer.
 fn put_taken(out: &mut Block, at: usize, taken: u32) -> usize
     requires { ⌜ at + 20 ≤ 65536 ⌝ }
+    ensures { λ r. ⌜ Puts (now (out .entry)) at (takenSays taken) (now (out .exit)) r ⌝ }
     ensures { λ r. ⌜ r ≤ at + 20 ⌝ }
 {
     if taken < 0x1_0000 {
@@ -180,6 +198,7 @@ fn put_taken(out: &mut Block, at: usize, taken: u32) -> usize
 
 fn room(pos: &Pos, out: &mut Block, at: usize) -> usize
     requires { ⌜ at + 4096 ≤ 65536 ⌝ }
+    ensures { λ r. ⌜ ((regs ring : List ℕ) → Puts (now (out .entry)) at (roomSays (roomOf (portOf regs (now (pos .entry)) ring))) (now (out .exit)) r) ⌝ }
     ensures { λ r. ⌜ r ≤ at + 4096 ⌝ }
 {
     let a = put(out, at, b"room ");
@@ -189,6 +208,7 @@ fn room(pos: &Pos, out: &mut Block, at: usize) -> usize
 
 fn state(regs: &Regs, pos: &Pos, ring: &Ring, out: &mut Block, at: usize) -> usize
     requires { ⌜ at + 4096 ≤ 65536 ⌝ }
+    ensures { λ r. ⌜ Puts (now (out .entry)) at (text "state" ++ portSays (portOf (now (regs .entry)) (now (pos .entry)) (now (ring .entry)))) (now (out .exit)) r ⌝ }
     ensures { λ r. ⌜ r ≤ at + 4096 ⌝ }
 {
     let a = put(out, at, b"state");
@@ -200,6 +220,7 @@ fn put_port(out: &mut Block, at: usize, regs: &Regs, start: usize, count: u32, r
     requires { ⌜ at + 283 ≤ 65536 ⌝ }
     requires { ⌜ start < 64 ⌝ }
     requires { ⌜ count ≤ 64 ⌝ }
+    ensures { λ r. ⌜ Puts (now (out .entry)) at (portSays (savedOf (now (regs .entry)) (queue capacity (now (ring .entry)) start count))) (now (out .exit)) r ⌝ }
     ensures { λ r. ⌜ r ≤ at + 283 ⌝ }
 {
     let a = put_regs(out, at, regs);
@@ -209,6 +230,7 @@ fn put_port(out: &mut Block, at: usize, regs: &Regs, start: usize, count: u32, r
 // The divisor's two bytes, IER, IIR, LCR, LSR, MCR, MSR and SCR.
 fn put_regs(out: &mut Block, at: usize, regs: &Regs) -> usize
     requires { ⌜ at + 27 ≤ 65536 ⌝ }
+    ensures { λ r. ⌜ ((waiting : List ℕ) → Puts (now (out .entry)) at (registersSay (savedOf (now (regs .entry)) waiting)) (now (out .exit)) r) ⌝ }
     ensures { λ r. ⌜ r ≤ at + 27 ⌝ }
 {
     let a = put_next(out, at, regs[0]);
@@ -225,6 +247,7 @@ fn put_regs(out: &mut Block, at: usize, regs: &Regs) -> usize
 // Puts a space and the digits of a byte.
 fn put_next(out: &mut Block, at: usize, byte: u8) -> usize
     requires { ⌜ at + 3 ≤ 65536 ⌝ }
+    ensures { λ r. ⌜ Puts (now (out .entry)) at (nextByte byte) (now (out .exit)) r ⌝ }
     ensures { λ r. ⌜ r ≤ at + 3 ⌝ }
 {
     let a = put(out, at, b" ");
@@ -236,6 +259,7 @@ fn put_waiting(out: &mut Block, at: usize, start: usize, count: u32, ring: &Ring
     requires { ⌜ at + 256 ≤ 65536 ⌝ }
     requires { ⌜ start < 64 ⌝ }
     requires { ⌜ count ≤ 64 ⌝ }
+    ensures { λ r. ⌜ Puts (now (out .entry)) at (waitingSay (queue capacity (now (ring .entry)) start count)) (now (out .exit)) r ⌝ }
     ensures { λ r. ⌜ r ≤ at + 256 ⌝ }
 {
     let a = put(out, at, b" ");
@@ -253,6 +277,7 @@ fn put_ring(out: &mut Block, at: usize, start: usize, count: usize, ring: &Ring)
     requires { ⌜ at + 128 ≤ 65536 ⌝ }
     requires { ⌜ start < 64 ⌝ }
     requires { ⌜ count ≤ 64 ⌝ }
+    ensures { λ r. ⌜ Puts (now (out .entry)) at (bytesSay (queue capacity (now (ring .entry)) start count)) (now (out .exit)) r ⌝ }
     ensures { λ r. ⌜ r ≤ at + 128 ⌝ }
 {
     let mut i = 0;
@@ -266,6 +291,7 @@ fn put_ring(out: &mut Block, at: usize, start: usize, count: usize, ring: &Ring)
 
 // No more than `CAPACITY` bytes wait, whatever the count says.
 fn capped(count: u32) -> u32
+    ensures { λ r. ⌜ r ≡ min count 64 ⌝ }
     ensures { λ r. ⌜ r ≤ 64 ⌝ }
 {
     if count < CAPACITY as u32 {

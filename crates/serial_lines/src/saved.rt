@@ -6,6 +6,7 @@ use crate::Ring;
 use crate::capped;
 use crate::put_port;
 use crate::wide;
+use serial::memory;
 use serial_saved::serialpost_serial_restore;
 use serial_saved::serialpost_serial_save;
 use words::Block;
@@ -17,7 +18,15 @@ use words::pattern::begins;
 use words::pattern::fits;
 use words::put::put;
 use words::put::unknown;
-ghost use Prim.Native.Nat.{_+_, _≤_};
+ghost use Prim.Native.Nat.{ℕ, _+_, _≤_};
+ghost use mathlib.Core.Path.{_≡_};
+ghost use mathlib.Core.Bool.{cond};
+ghost use mathlib.Core.List.{List};
+ghost use lib.Dec.{leb};
+ghost use lib.ListN.{take, drop};
+ghost use Rattle.serial.specs.Layout.{capacity};
+ghost use Rattle.serial_saved.specs.Saved.{savedOf};
+ghost use Rattle.serial_lines.specs.Answers.{Answers, AnswersLine, Brought, lends, asksSaved, asksWith, givenIn, restore, nothing};
 
 pub fn answer(
     line: &[u8],
@@ -31,10 +40,12 @@ pub fn answer(
     at: usize,
 ) -> usize
     requires { ⌜ at + 4096 ≤ 65536 ⌝ }
+    ensures { λ r. ⌜ AnswersLine asksSaved (now (line .entry)) (lends (now (regs .entry)) (now (pos .entry)) (now (ring .entry)) (now (saved .entry)) (now (waiting .entry)) (now (count .entry))) (now (out .entry)) at (lends (now (regs .exit)) (now (pos .exit)) (now (ring .exit)) (now (saved .exit)) (now (waiting .exit)) (now (count .exit))) (now (out .exit)) r ⌝ }
     ensures { λ r. ⌜ r ≤ at + 4096 ⌝ }
 {
     if fits(line, b"save") {
         *count = serialpost_serial_save(regs, pos, ring, saved, waiting);
+        memory::whole(waiting);
         let a = put(out, at, b"save");
         return put_port(out, a, saved, 0, capped(*count), waiting);
     }
@@ -63,6 +74,7 @@ fn restore_kept(
     at: usize,
 ) -> usize
     requires { ⌜ at + 4096 ≤ 65536 ⌝ }
+    ensures { λ r. ⌜ Answers (cond (leb count capacity) (restore (savedOf (now (saved .entry)) (take count (now (waiting .entry))))) nothing) (lends (now (regs .entry)) (now (pos .entry)) (now (ring .entry)) (now (saved .entry)) (now (waiting .entry)) count) (now (out .entry)) at (lends (now (regs .exit)) (now (pos .exit)) (now (ring .exit)) (now (saved .entry)) (now (waiting .entry)) count) (now (out .exit)) r ⌝ }
     ensures { λ r. ⌜ r ≤ at + 4096 ⌝ }
 {
     let n = wide(count);
@@ -83,6 +95,7 @@ fn restore_given(
     at: usize,
 ) -> usize
     requires { ⌜ at + 4096 ≤ 65536 ⌝ }
+    ensures { λ r. ⌜ ((saved waiting : List ℕ) (count : ℕ) → Answers (asksWith (drop 35 (now (line .entry))) (λ bytes. restore (givenIn (now (line .entry)) bytes))) (lends (now (regs .entry)) (now (pos .entry)) (now (ring .entry)) saved waiting count) (now (out .entry)) at (lends (now (regs .exit)) (now (pos .exit)) (now (ring .exit)) saved waiting count) (now (out .exit)) r) ⌝ }
     ensures { λ r. ⌜ r ≤ at + 4096 ⌝ }
 {
     let mut bytes = io::buffer();
@@ -94,7 +107,9 @@ fn restore_given(
 }
 
 // The nine registers of such a line, in the order in which they lie in memory.
-fn regs_in(line: &[u8]) -> [u8; 9] {
+fn regs_in(line: &[u8]) -> [u8; 9]
+    ensures { λ r. ⌜ ((waiting : List ℕ) → savedOf r waiting ≡ givenIn (now (line .entry)) waiting) ⌝ }
+{
     [
         byte_at(line, 8),
         byte_at(line, 14),
@@ -118,6 +133,7 @@ fn restore(
     at: usize,
 ) -> usize
     requires { ⌜ at + 4096 ≤ 65536 ⌝ }
+    ensures { λ r. ⌜ Brought (savedOf (now (saved .entry)) (now (waiting .entry))) (now (regs .entry)) (now (pos .entry)) (now (ring .entry)) (now (regs .exit)) (now (pos .exit)) (now (ring .exit)) (now (out .entry)) at (now (out .exit)) r ⌝ }
     ensures { λ r. ⌜ r ≤ at + 4096 ⌝ }
 {
     let brought = serialpost_serial_restore(regs, pos, ring, saved, waiting);

@@ -1,3 +1,7 @@
+-- Each answer is a law of `Answering`.
+-- Assumes nothing.
+use Rattle.serial_lines.proofs.Answering.{bad-bytes, input-bytes}
+use Rattle.serial_lines.specs.Answers.{input}
 use mathlib.Core.Path.{ap}
 use native.Mathlib.Omega.{arith}
 use lib.ListN.{length-take}
@@ -22,7 +26,7 @@ unknown-requires : tie.Need-unknown-requires
 unknown-requires c κs = search needs
 
 returns : tie.Need-returns
-returns c = search needs
+returns c = (λ saved waiting count. bad-bytes (c .before .before .before .before .bytes-from .ensures .0) _ input (c .before .before .enum-told .given .1) (c .unknown .ensures) (search needs), search needs)
 
 array-share-prefix-bytes : tie.Need-array-share-prefix-bytes
 unfolding countOf
@@ -36,7 +40,7 @@ input-requires : tie.Need-input-requires
 input-requires c κs = search needs
 
 returns-2 : tie.Need-returns-2
-returns-2 c = search needs
+returns-2 c = (λ saved waiting count. input-bytes (c .before .before .before .before .before .before .before .before .before .bytes-from .ensures .0) _ (c .before .before .before .before .before .before .before .count .given .1) (c .input .ensures .0) (search needs), search needs)
 
 pub input-of-spec : {M : Type 1} → statement M
 input-of-spec =

@@ -1,3 +1,10 @@
+-- Byte by byte.
+-- Assumes nothing.
+use Rattle.serial_lines.proofs.Saying.{none-yet, one-more, all-there}
+use Rattle.words.specs.Put.{Puts}
+use Rattle.serial.specs.Ring.{queue}
+use Rattle.serial.specs.Layout.{capacity}
+use Rattle.serial_lines.specs.Answers.{bytesSay}
 use Prim.Native.Nat.{_+_, _-_, _≤_, _<_}
 use mathlib.Core.Path.{_≡_}
 use borrow.Author.Needs.{needs}
@@ -7,13 +14,13 @@ use Rattle.serial_lines.proofs.put_ring.Statement.{statement}
 use Rattle.serial_lines.proofs.put_ring.Tie as tie
 
 abbrev Inv-loop : tie.InvT-loop
-Inv-loop out₀ at start count ring i₀ next₀ out i next = (i ≤ count) × (next ≡ at + i + i)
+Inv-loop out₀ at start count ring i₀ next₀ out i next = (i ≤ count) × (next ≡ at + i + i) × Puts out₀ at (bytesSay (queue capacity ring start i)) out next
 
 abbrev μ-loop : tie.MeasureT-loop
 μ-loop out₀ at start count ring i₀ next₀ out i next = count - i
 
 loop-holds : tie.Need-loop-holds Inv-loop μ-loop
-loop-holds c = search needs
+loop-holds c = (omega arith, omega arith, none-yet _ _ _ _)
 
 add-put-byte : tie.Need-add-put-byte Inv-loop μ-loop
 add-put-byte c = search needs
@@ -31,10 +38,10 @@ loop-less : tie.Need-loop-less Inv-loop μ-loop
 loop-less c = search needs
 
 loop-again : tie.Need-loop-again Inv-loop μ-loop
-loop-again c = search needs
+loop-again c = (omega arith, omega arith, one-more _ _ _ (c .before .before .before .before .loop .inv .2) (c .put-byte .ensures .0))
 
 returns : tie.Need-returns Inv-loop μ-loop
-returns c = search needs
+returns c = (all-there _ _ (omega arith) (c .before .loop .inv .2), search needs)
 
 pub put-ring-spec : {M : Type 1} → statement M
 put-ring-spec =

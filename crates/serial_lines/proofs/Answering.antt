@@ -1,0 +1,222 @@
+-- The serial port's answers, one law for each place where the code answers a line.
+-- Assumes nothing.
+use Prim.Native.Nat.{ℕ, zero, suc, _+_, _-_, _%_, _≤_, _<_, min}
+use mathlib.Core.Path.{_≡_, refl, sym, ap, _∙_}
+use mathlib.Core.Bool.{Bool, true, false, cond}
+use mathlib.Core.List.{List, [], _∷_, _++_}
+use native.Mathlib.Numerals.{add-one}
+use native.Mathlib.Omega.{arith}
+use borrow.Author.Tests.{le-leb, lt-leb}
+use lib.Dec.{leb}
+use lib.ListN.{length, getD, take, drop}
+use lib.Seq.{take-suc}
+use Rattle.serial.specs.Port.{Port, roomOf}
+use Rattle.serial.specs.Ring.{queue}
+use Rattle.serial.specs.Layout.{capacity, portOf}
+use Rattle.serial.proofs.RingLaws.{queue-split}
+use Rattle.runs.proofs.Isolation.{memory-fits}
+use Rattle.serial_saved.specs.Saved.{savedOf}
+use Rattle.serial_saved.specs.Calls.{Saves}
+use Rattle.words.specs.Hex.{byteAt, bytesOf, areBytes, countOf, Gives}
+use Rattle.words.specs.Pattern.{fitsOf, beginsLike}
+use Rattle.words.specs.Put.{Puts}
+use Rattle.words.specs.Text.{text}
+use Rattle.words.specs.declared.hex.Bytes.{Bytes}
+use Rattle.words.specs.declared.hex.Bytes.the-variants.{Are, Bad}
+use Rattle.words.proofs.Putting.{both}
+use Rattle.serial_lines.specs.Answers.{
+  Lent,
+  Asks,
+  Answers,
+  DidRead,
+  DidWrite,
+  DidInput,
+  Brought,
+  asks,
+  asksSaved,
+  asksWith,
+  givenIn,
+  keptIn,
+  portIn,
+  input,
+  restore,
+  nothing,
+  roomSays,
+  portSays,
+}
+
+-- What is lent, with the port in other memory.
+abbrev pub holding : Lent → List ℕ → List ℕ → List ℕ → Lent
+holding lent regs pos ring = record { regs = regs; pos = pos; ring = ring; saved = lent .saved; waiting = lent .waiting; count = lent .count }
+
+-- ---- A line that asks for nothing, and one that brings a port back
+
+unknown : (lent : Lent) {out out′ : List ℕ} {at r : ℕ} → Puts out at (text "?\n") out′ r → r ≤ at + 4096 → Answers nothing lent out at lent out′ r
+unknown lent p h = record { reached = false; tells = tt; said = p; port = refl; kept = (refl, refl, refl); short = h }
+
+brought : (lent : Lent) {saved : Port} {regs′ pos′ ring′ out out′ : List ℕ} {at r : ℕ}
+    → Brought saved (lent .regs) (lent .pos) (lent .ring) regs′ pos′ ring′ out at out′ r → r ≤ at + 4096
+    → Answers (restore saved) lent out at (holding lent regs′ pos′ ring′) out′ r
+brought lent b h =
+    record { reached = b .reached; tells = b .tells; said = b .did .says; port = b .did .holds; kept = (refl, refl, refl); short = h }
+
+entered : (lent : Lent) {bytes regs′ pos′ ring′ out out′ : List ℕ} {at r : ℕ}
+    → DidInput bytes (lent .regs) (lent .pos) (lent .ring) regs′ pos′ ring′ out at out′ r → r ≤ at + 4096
+    → Answers (input bytes) lent out at (holding lent regs′ pos′ ring′) out′ r
+entered lent d h = record { reached = false; tells = tt; said = d .says; port = d .holds; kept = (refl, refl, refl); short = h }
+
+-- ---- Bytes that end a line
+
+module _ {digits bytes : List ℕ} {b : Bytes} (g : Gives digits bytes b) where
+  bad : b ≡ Bad → areBytes digits ≡ false
+  bad e = go (areBytes digits) (sym e ∙ g .told)
+    where
+      go : (t : Bool) → Bad ≡ cond t (Are (length (bytesOf digits))) Bad → t ≡ false
+      go true f = absurd (let z : _≡_ {A = ℕ} 0 1 = cc in omega arith)
+      go false f = refl
+
+  good : (n : ℕ) → b ≡ Are n → areBytes digits ≡ true
+  good n e = go (areBytes digits) (sym e ∙ g .told)
+    where
+      go : (t : Bool) → Are n ≡ cond t (Are (length (bytesOf digits))) Bad → t ≡ true
+      go true f = refl
+      go false f = absurd (let z : _≡_ {A = ℕ} 0 1 = cc in omega arith)
+
+  first : (n : ℕ) → b ≡ Are n → take n bytes ≡ bytesOf digits
+  unfolding countOf
+  first n e = rw (e, good n e) at (g .first)
+
+  pub bad-bytes : (lent : Lent) (ask : List ℕ → Asks) {out out′ : List ℕ} {at r : ℕ} → b ≡ Bad → Puts out at (text "?\n") out′ r → r ≤ at + 4096
+      → Answers (asksWith digits ask) lent out at lent out′ r
+  bad-bytes lent ask e p h = rw (bad e) (unknown lent p h)
+
+  pub input-bytes : (lent : Lent) {n : ℕ} {regs′ pos′ ring′ out out′ : List ℕ} {at r : ℕ} → b ≡ Are n
+      → DidInput (take n bytes) (lent .regs) (lent .pos) (lent .ring) regs′ pos′ ring′ out at out′ r → r ≤ at + 4096
+      → Answers (asksWith digits input) lent out at (holding lent regs′ pos′ ring′) out′ r
+  input-bytes lent {n} e d h = rw (good n e, ← first n e) (entered lent d h)
+
+  pub given-bytes : (lent : Lent) (line saved : List ℕ) {n : ℕ} {regs′ pos′ ring′ out out′ : List ℕ} {at r : ℕ} → b ≡ Are n
+      → ((w : List ℕ) → savedOf saved w ≡ givenIn line w)
+      → Brought (savedOf saved (take n bytes)) (lent .regs) (lent .pos) (lent .ring) regs′ pos′ ring′ out at out′ r → r ≤ at + 4096
+      → Answers (asksWith digits (λ w. restore (givenIn line w))) lent out at (holding lent regs′ pos′ ring′) out′ r
+  given-bytes lent line saved {n} e s d h = rw (good n e, ← first n e, ← s (take n bytes)) (brought lent d h)
+
+-- ---- The port that was saved last
+
+module _ (lent : Lent) {n : ℕ} {out out′ : List ℕ} {at r : ℕ} (e : n ≡ lent .count) where
+  pub none-kept : capacity < n → Puts out at (text "?\n") out′ r → r ≤ at + 4096
+      → Answers (cond (leb (lent .count) capacity) (restore (keptIn lent)) nothing) lent out at lent out′ r
+  none-kept l p h = rw (lt-leb (lent .count) capacity (rw (← e) l)) (unknown lent p h)
+
+  pub some-kept : {regs′ pos′ ring′ : List ℕ} → n ≤ capacity
+      → Brought (savedOf (lent .saved) (take (n - 0) (drop 0 (lent .waiting)))) (lent .regs) (lent .pos) (lent .ring) regs′ pos′ ring′ out at out′ r → r ≤ at + 4096
+      → Answers (cond (leb (lent .count) capacity) (restore (keptIn lent)) nothing) lent out at (holding lent regs′ pos′ ring′) out′ r
+  some-kept l b h =
+      let z : n - 0 ≡ lent .count = omega arith in
+      rw (le-leb (lent .count) capacity (rw (← e) l)) (brought lent (rw z at b) h)
+
+-- ---- One line about saved states
+
+-- the first bytes, one by one, are those from the first place on
+none-from : (waiting : List ℕ) → queue capacity waiting 0 0 ≡ []
+unfolding queue
+none-from waiting = refl
+
+one-from : (waiting : List ℕ) (n : ℕ) → n < capacity → queue capacity waiting 0 (suc n) ≡ queue capacity waiting 0 n ++ (getD waiting n 0 ∷ [])
+unfolding queue
+one-from waiting n h =
+    let place : (0 + n) % 64 ≡ n = omega arith in
+    ap (queue capacity waiting 0) (sym (add-one n)) ∙ queue-split capacity waiting 0 n 1 ∙
+    ap (λ (i : ℕ). queue capacity waiting 0 n ++ (getD waiting i 0 ∷ [])) place
+
+from-first : (waiting : List ℕ) (n : ℕ) → n ≤ capacity → n ≤ length waiting → queue capacity waiting 0 n ≡ take n waiting
+from-first waiting zero h l = none-from waiting
+from-first waiting (suc n) h l =
+    one-from waiting n (omega arith) ∙ rw (from-first waiting n (omega arith) (omega arith)) (sym (take-suc waiting n 0 (omega arith)))
+
+module _ (line : List ℕ) (lent : Lent) {out out′ : List ℕ} {at r : ℕ} where
+  pub by-save : {saved′ waiting′ o₁ : List ℕ} {count′ n a : ℕ} → fitsOf (text "save") line ≡ true
+      → Saves (lent .regs) (lent .pos) (lent .ring) (lent .waiting) saved′ waiting′ count′ → length waiting′ ≡ capacity → n ≡ min count′ 64 → Puts out at (text "save") o₁ a
+      → Puts o₁ a (portSays (savedOf saved′ (queue capacity waiting′ 0 n))) out′ r → r ≤ at + 4096
+      → Answers (asksSaved lent line) lent out at (record { regs = lent .regs; pos = lent .pos; ring = lent .ring; saved = saved′; waiting = waiting′; count = count′ }) out′ r
+  unfolding asksSaved
+  by-save {saved′} {waiting′} {count′ = count′} {n = n} f s l e p q h =
+      let few : count′ ≤ capacity = rw (s .number) (memory-fits (lent .regs) (lent .pos) (lent .ring)) in
+      let same : n ≡ count′ = omega arith in
+      let port : savedOf saved′ (queue capacity waiting′ 0 n) ≡ portIn lent = rw (same, from-first waiting′ count′ few (rw l few)) (s .holds) in
+      rw f (record { reached = false; tells = tt; said = rw (← port) (both p q); port = refl; kept = (few, s .holds); short = h })
+
+module _ (line : List ℕ) (lent : Lent) {out out′ : List ℕ} {at r : ℕ} (no-save : fitsOf (text "save") line ≡ false) where
+  pub by-kept : {lent′ : Lent} → fitsOf (text "restore") line ≡ true
+      → Answers (cond (leb (lent .count) capacity) (restore (keptIn lent)) nothing) lent out at lent′ out′ r → Answers (asksSaved lent line) lent out at lent′ out′ r
+  unfolding asksSaved
+  by-kept f b = rw (no-save, f) b
+
+module _ (line : List ℕ) (lent : Lent) {out out′ : List ℕ} {at r : ℕ} (no-save : fitsOf (text "save") line ≡ false) (no-kept : fitsOf (text "restore") line ≡ false) where
+  pub by-registers : (saved : List ℕ) {regs′ pos′ ring′ : List ℕ} → fitsOf (text "restore DD DD DD DD DD DD DD DD DD -") line ≡ true
+      → ((w : List ℕ) → savedOf saved w ≡ givenIn line w) → Brought (savedOf saved []) (lent .regs) (lent .pos) (lent .ring) regs′ pos′ ring′ out at out′ r → r ≤ at + 4096
+      → Answers (asksSaved lent line) lent out at (holding lent regs′ pos′ ring′) out′ r
+  unfolding asksSaved
+  by-registers saved f s b h = rw (no-save, no-kept, f, ← s []) (brought lent b h)
+
+  module _ (no-registers : fitsOf (text "restore DD DD DD DD DD DD DD DD DD -") line ≡ false) where
+    pub by-given : {lent′ : Lent} → beginsLike (text "restore DD DD DD DD DD DD DD DD DD ") line ≡ true
+        → Answers (asksWith (drop 35 line) (λ w. restore (givenIn line w))) lent out at lent′ out′ r → Answers (asksSaved lent line) lent out at lent′ out′ r
+    unfolding asksSaved
+    by-given f b = rw (no-save, no-kept, no-registers, f) b
+
+    pub by-nothing : beginsLike (text "restore DD DD DD DD DD DD DD DD DD ") line ≡ false → Puts out at (text "?\n") out′ r → r ≤ at + 4096
+        → Answers (asksSaved lent line) lent out at lent out′ r
+    unfolding asksSaved
+    by-nothing f p h = rw (no-save, no-kept, no-registers, f) (unknown lent p h)
+
+-- ---- One line
+
+module _ (line : List ℕ) (lent : Lent) {out out′ : List ℕ} {at r : ℕ} where
+  pub by-write : {offset value : ℕ} {regs′ pos′ ring′ : List ℕ} → fitsOf (text "w OO VV") line ≡ true → offset ≡ byteAt line 2 → value ≡ byteAt line 5
+      → DidWrite offset value (lent .regs) (lent .pos) (lent .ring) regs′ pos′ ring′ out at out′ r → r ≤ at + 4096
+      → Answers (asks lent line) lent out at (holding lent regs′ pos′ ring′) out′ r
+  unfolding asks
+  by-write f o v d h =
+      rw (f, ← o, ← v) (record { reached = false; tells = tt; said = d .says; port = d .holds; kept = (refl, refl, refl); short = h })
+
+module _ (line : List ℕ) (lent : Lent) {out out′ : List ℕ} {at r : ℕ} (no-write : fitsOf (text "w OO VV") line ≡ false) where
+  pub by-read : {offset : ℕ} {regs′ pos′ : List ℕ} → fitsOf (text "r OO") line ≡ true → offset ≡ byteAt line 2
+      → DidRead offset (lent .regs) (lent .pos) (lent .ring) regs′ pos′ (lent .ring) out at out′ r → r ≤ at + 4096
+      → Answers (asks lent line) lent out at (holding lent regs′ pos′ (lent .ring)) out′ r
+  unfolding asks
+  by-read f o d h =
+      rw (no-write, f, ← o) (record { reached = false; tells = tt; said = d .says; port = d .holds; kept = (refl, refl, refl); short = h })
+
+module _ (line : List ℕ) (lent : Lent) {out out′ : List ℕ} {at r : ℕ} (no-write : fitsOf (text "w OO VV") line ≡ false) (no-read : fitsOf (text "r OO") line ≡ false) where
+  pub by-no-input : {regs′ pos′ ring′ : List ℕ} → fitsOf (text "b") line ≡ true → DidInput [] (lent .regs) (lent .pos) (lent .ring) regs′ pos′ ring′ out at out′ r
+      → r ≤ at + 4096 → Answers (asks lent line) lent out at (holding lent regs′ pos′ ring′) out′ r
+  unfolding asks
+  by-no-input f d h = rw (no-write, no-read, f) (entered lent d h)
+
+  module _ (no-empty : fitsOf (text "b") line ≡ false) where
+    pub by-input : {lent′ : Lent} → beginsLike (text "b ") line ≡ true → Answers (asksWith (drop 2 line) input) lent out at lent′ out′ r
+        → Answers (asks lent line) lent out at lent′ out′ r
+    unfolding asks
+    by-input f b = rw (no-write, no-read, no-empty, f) b
+
+    module _ (no-input : beginsLike (text "b ") line ≡ false) where
+      pub by-room : fitsOf (text "room") line ≡ true → Puts out at (roomSays (roomOf (portIn lent))) out′ r → r ≤ at + 4096
+          → Answers (asks lent line) lent out at lent out′ r
+      unfolding asks
+      by-room f p h =
+          rw (no-write, no-read, no-empty, no-input, f)
+          (record { reached = false; tells = tt; said = p; port = refl; kept = (refl, refl, refl); short = h })
+
+      module _ (no-room : fitsOf (text "room") line ≡ false) where
+        pub by-state : fitsOf (text "state") line ≡ true → Puts out at (text "state" ++ portSays (portIn lent)) out′ r → r ≤ at + 4096
+            → Answers (asks lent line) lent out at lent out′ r
+        unfolding asks
+        by-state f p h =
+            rw (no-write, no-read, no-empty, no-input, no-room, f)
+            (record { reached = false; tells = tt; said = p; port = refl; kept = (refl, refl, refl); short = h })
+
+        pub by-saved : {lent′ : Lent} → fitsOf (text "state") line ≡ false → Answers (asksSaved lent line) lent out at lent′ out′ r
+            → Answers (asks lent line) lent out at lent′ out′ r
+        unfolding asks
+        by-saved f b = rw (no-write, no-read, no-empty, no-input, no-room, f) b

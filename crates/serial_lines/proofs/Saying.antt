@@ -1,0 +1,187 @@
+-- What the parts of the code say, one law for each place where one answers.
+-- Assumes nothing.
+use Prim.Native.Nat.{ℕ, zero, suc, _+_, _*_, _/_, _%_, _≤_, _<_, min}
+use mathlib.Core.Path.{_≡_, refl, sym, ap, _∙_}
+use mathlib.Core.Bool.{Bool, true, false, cond}
+use mathlib.Core.List.{List, [], _∷_, _++_, append-assoc, append-nil}
+use native.Mathlib.Nat.{mod-mod}
+use native.Mathlib.Decide.{decLt}
+use native.Mathlib.Omega.{arith}
+use borrow.Author.Tests.{lt-ltb, le-ltb}
+use lib.ListN.{length, getD, take}
+use Rattle.common.specs.Lists.{some}
+use Rattle.serial.specs.Port.{readOf, writeOf, inputOf}
+use Rattle.serial.specs.Ring.{queue}
+use Rattle.serial.specs.Layout.{capacity, portOf}
+use Rattle.serial.specs.Calls.{Reads, Writes, Takes}
+use Rattle.serial.proofs.RingLaws.{queue-length, queue-round, queue-split}
+use Rattle.serial_saved.specs.Saved.{Restore, savedOf, restoreOf}
+use Rattle.serial_saved.specs.Calls.{Restores}
+use Rattle.serial_saved.proofs.Bringing.{same-port, too-many, enough}
+use Rattle.serial_saved.proofs.Saving.{restore-word}
+use Rattle.words.specs.Decimal.{decimalOf}
+use Rattle.words.specs.Hex.{byteAt, digitsOf}
+use Rattle.words.specs.Put.{Puts}
+use Rattle.words.specs.Text.{text}
+use Rattle.words.proofs.Putting.{both, instead}
+use Rattle.serial_lines.specs.Answers.{Did, DidRead, DidWrite, DidInput, Brought, givenIn, raisesSay, sentSays, takenSays, bytesSay, registersSay, waitingSay, portSays}
+
+-- ---- The parts of a word
+
+module _ {out out′ : List ℕ} {at r : ℕ} (n : ℕ) where
+  pub none-sent : n < 256 → Puts out at (text "--") out′ r → Puts out at (sentSays n) out′ r
+  none-sent h p = rw (lt-ltb n 256 h) p
+
+  pub one-sent : 256 ≤ n → Puts out at (digitsOf (n % 256)) out′ r → Puts out at (sentSays n) out′ r
+  one-sent h p = rw (le-ltb n 256 h) p
+
+  pub some-taken : n < 0x1_0000 → Puts out at (decimalOf n) out′ r → Puts out at (takenSays n) out′ r
+  some-taken h p = rw (lt-ltb n 0x1_0000 h) p
+
+  pub full : 0x1_0000 ≤ n → Puts out at (text "full") out′ r → Puts out at (takenSays n) out′ r
+  full h p = rw (le-ltb n 0x1_0000 h) p
+
+-- ---- One access
+
+module _ {out o₁ o₂ out′ : List ℕ} {at a b r : ℕ} {regs pos ring regs′ pos′ : List ℕ} {word : ℕ} where
+  pub reads : (offset : ℕ) → Reads (λ p. readOf p offset) regs pos ring regs′ pos′ word → Puts out at (text "r ") o₁ a → Puts o₁ a (digitsOf (word % 256)) o₂ b
+      → Puts o₂ b (raisesSay (word / 512)) out′ r → DidRead offset regs pos ring regs′ pos′ ring out at out′ r
+  reads offset c p q s = record { says = rw (← c .answer) (both (both p q) s); holds = c .holds }
+
+  pub writes : (offset value : ℕ) {ring′ : List ℕ} → Writes (λ p. writeOf p offset value) regs pos ring regs′ pos′ ring′ word → Puts out at (text "w ") o₁ a
+      → Puts o₁ a (sentSays (word % 512)) o₂ b → Puts o₂ b (raisesSay (word / 512)) out′ r → DidWrite offset value regs pos ring regs′ pos′ ring′ out at out′ r
+  writes offset value c p q s = record { says = rw (← c .answer) (both (both p q) s); holds = c .holds }
+
+  pub takes : (bytes : List ℕ) {ring′ : List ℕ} → Takes (λ p. inputOf p bytes) regs pos ring regs′ pos′ ring′ word → Puts out at (text "b ") o₁ a
+      → Puts o₁ a (takenSays (word % 0x2_0000)) o₂ b → Puts o₂ b (raisesSay (word / 0x2_0000)) out′ r → DidInput bytes regs pos ring regs′ pos′ ring′ out at out′ r
+  takes bytes c p q s = record { says = rw (← c .answer) (both (both p q) s); holds = c .holds }
+
+-- ---- Bytes that wait
+
+bytes-more : (bytes : List ℕ) (b : ℕ) → bytesSay (bytes ++ (b ∷ [])) ≡ bytesSay bytes ++ digitsOf b
+unfolding bytesSay
+bytes-more [] b = append-nil (digitsOf b)
+bytes-more (x ∷ bytes) b = ap (λ (l : List ℕ). digitsOf x ++ l) (bytes-more bytes b) ∙ sym (append-assoc (digitsOf x) (bytesSay bytes) (digitsOf b))
+
+pub none-yet : (ring : List ℕ) (start : ℕ) (out : List ℕ) (at : ℕ) → Puts out at (bytesSay (queue capacity ring start 0)) out at
+unfolding bytesSay queue
+none-yet ring start out at = record { next = omega arith; bytes = sym (append-nil (take at out)) }
+
+pub one-more : (ring : List ℕ) (start i : ℕ) {out o₁ out′ : List ℕ} {at a r : ℕ} → Puts out at (bytesSay (queue capacity ring start i)) o₁ a
+    → Puts o₁ a (digitsOf (getD ring ((start + i) % 64) 0)) out′ r → Puts out at (bytesSay (queue capacity ring start (i + 1))) out′ r
+unfolding queue
+one-more ring start i p q =
+    let b = getD ring ((start + i) % 64) 0 in
+    let e : queue capacity ring start (i + 1) ≡ queue capacity ring start i ++ (b ∷ []) = queue-split capacity ring start i 1 in
+    rw (e, bytes-more (queue capacity ring start i) b) (both p q)
+
+pub all-there : (ring : List ℕ) (start : ℕ) {i n : ℕ} {out out′ : List ℕ} {at r : ℕ} → i ≡ n → Puts out at (bytesSay (queue capacity ring start i)) out′ r
+    → Puts out at (bytesSay (queue capacity ring start n)) out′ r
+all-there ring start e p = rw (← e) p
+
+none-in : (ring : List ℕ) (start n : ℕ) → n ≡ 0 → some (queue capacity ring start n) ≡ false
+unfolding queue
+none-in ring start n e = rw e refl
+
+some-in : (ring : List ℕ) (start n : ℕ) → (n ≡ 0 → ⊥) → some (queue capacity ring start n) ≡ true
+unfolding queue
+some-in ring start zero h = absurd (h refl)
+some-in ring start (suc n) h = refl
+
+module _ (ring : List ℕ) (start : ℕ) {n : ℕ} {out o₁ o₂ out′ : List ℕ} {at a b r : ℕ} (p : Puts out at (text " ") o₁ a) (q : Puts o₁ a (decimalOf n) o₂ b) where
+  pub none-wait : n ≡ 0 → Puts o₂ b (text " -\n") out′ r → Puts out at (waitingSay (queue capacity ring start n)) out′ r
+  none-wait e s = rw (queue-length capacity ring start n, none-in ring start n e) (both (both p q) s)
+
+  pub some-wait : {m : ℕ} {o₃ o₄ : List ℕ} {c d : ℕ} → (n ≡ 0 → ⊥) → m ≡ n → Puts o₂ b (text " ") o₃ c → Puts o₃ c (bytesSay (queue capacity ring start m)) o₄ d → Puts o₄ d (text "\n") out′ r
+      → Puts out at (waitingSay (queue capacity ring start n)) out′ r
+  some-wait h e s t u =
+      rw (queue-length capacity ring start n, some-in ring start n h) (both (both p q) (both (both s (all-there ring start e t)) u))
+
+-- a port: its registers, whatever waits, and what does
+pub port-said : (regs waiting : List ℕ) {out o₁ out′ : List ℕ} {at a r : ℕ} → ((w : List ℕ) → Puts out at (registersSay (savedOf regs w)) o₁ a)
+    → Puts o₁ a (waitingSay waiting) out′ r → Puts out at (portSays (savedOf regs waiting)) out′ r
+unfolding savedOf
+port-said regs waiting p q = both (p waiting) q
+
+-- a port as it lies in memory
+pub whole-port : (regs pos ring : List ℕ) {x n : ℕ} {name out o₁ out′ : List ℕ} {at a r : ℕ} → x ≡ getD pos 0 0 → n ≡ min (getD pos 1 0) 64 → Puts out at name o₁ a
+    → Puts o₁ a (portSays (savedOf regs (queue capacity ring (x % 64) n))) out′ r → Puts out at (name ++ portSays (portOf regs pos ring)) out′ r
+whole-port regs pos ring {x} {n} e f p q =
+    let same : queue capacity ring (getD pos 0 0) (min (getD pos 1 0) 64) ≡ queue capacity ring (x % 64) n =
+    rw (e, f) (queue-round capacity ring (getD pos 0 0) (getD pos 0 0 % 64) (min (getD pos 1 0) 64) (sym (mod-mod (getD pos 0 0) 64))) in
+    rw (same-port regs pos ring (queue capacity ring (x % 64) n) same) (both p q)
+
+-- ---- A port is brought back
+
+pub nine : (line : List ℕ) {a b c d e f g h i : ℕ} → a ≡ byteAt line 8 → b ≡ byteAt line 14 → c ≡ byteAt line 17 → d ≡ byteAt line 20 → e ≡ byteAt line 26
+    → f ≡ byteAt line 23 → g ≡ byteAt line 29 → h ≡ byteAt line 32 → i ≡ byteAt line 11 → (waiting : List ℕ)
+    → savedOf (a ∷ b ∷ c ∷ d ∷ e ∷ f ∷ g ∷ h ∷ i ∷ []) waiting ≡ givenIn line waiting
+unfolding savedOf portOf
+nine line p q r s t u v w x waiting = rw (p, q, r, s, t, u, v, w, x) refl
+
+module _ {regs pos ring saved waiting regs′ pos′ ring′ : List ℕ} {word : ℕ} (b : Restores regs pos ring saved waiting regs′ pos′ ring′ word) where
+  abbrev o : Restore
+  o = restoreOf (portOf regs pos ring) (savedOf saved waiting)
+
+  refused : word ≡ 0x1_0000 → o .refused ≡ true
+  refused e = go (b .reachable) (o .refused) (o .raises) (sym (b .answer) ∙ e)
+    where
+      go : (reachable refused : Bool) (raises : ℕ) → cond reachable 1 0 + cond refused 0x1_0000 0 + 0x2_0000 * raises ≡ 0x1_0000 → refused ≡ true
+      go reachable true raises e = refl
+      go true false raises e = absurd (omega (arith, e))
+      go false false raises e = absurd (omega (arith, e))
+
+  not-refused : (word ≡ 0x1_0000 → ⊥) → o .refused ≡ false
+  unfolding savedOf
+  not-refused h = go (decLt capacity (length waiting))
+    where
+      word-of : capacity < length waiting → (t : Bool) → b .reachable ≡ t → word ≡ 0x1_0000
+      word-of l true e = absurd (omega (arith, b .exact .0 e .fits))
+      word-of l false e = b .answer ∙ rw (e, too-many saved waiting (portOf regs pos ring) l) refl
+
+      go : Dec (capacity < length waiting) → o .refused ≡ false
+      go (yes l) = absurd (h (word-of l (b .reachable) refl))
+      go (no l) = ap (λ (o : Restore). o .refused) (enough saved waiting (portOf regs pos ring) (omega arith))
+
+  odd : word % 2 ≡ cond (b .reachable) 1 0
+  odd = rw (b .answer) (go (b .reachable) (o .refused))
+    where
+      go : (reachable refused : Bool) → (cond reachable 1 0 + cond refused 0x1_0000 0 + 0x2_0000 * o .raises) % 2 ≡ cond reachable 1 0
+      go true true = omega arith
+      go true false = omega arith
+      go false true = omega arith
+      go false false = omega arith
+
+  told : (t : Bool) → word % 2 ≡ cond t 1 0 → b .reachable ≡ t
+  told t e = go (b .reachable) t (sym odd ∙ e)
+    where
+      go : (x y : Bool) → _≡_ {A = ℕ} (cond x 1 0) (cond y 1 0) → x ≡ y
+      go true true e = refl
+      go true false e = absurd (omega (arith, e))
+      go false true e = absurd (omega (arith, e))
+      go false false e = refl
+
+  raises : word / 0x2_0000 ≡ o .raises
+  raises = rw (b .answer) (restore-word (b .reachable) o .1 .1)
+
+  module _ {out out′ : List ℕ} {at r : ℕ} where
+    pub brings-full : word ≡ 0x1_0000 → Puts out at (text "restore full\n") out′ r → Brought (savedOf saved waiting) regs pos ring regs′ pos′ ring′ out at out′ r
+    brings-full e p = record { reached = b .reachable; tells = b .exact; did = record { says = rw (refused e) p; holds = b .holds } }
+
+    pub brings-reached : {o₁ o₂ : List ℕ} {a d : ℕ} → (word ≡ 0x1_0000 → ⊥) → word % 2 ≡ 1 → Puts out at (text "restore ") o₁ a → Puts o₁ a (decimalOf (word / 0x2_0000)) o₂ d
+        → Puts o₂ d (text " reached\n") out′ r → Brought (savedOf saved waiting) regs pos ring regs′ pos′ ring′ out at out′ r
+    brings-reached n e p q s =
+        record {
+          reached = b .reachable;
+          tells = b .exact;
+          did = record { says = rw (not-refused n, told true e, ← raises) (both (both p q) s); holds = b .holds };
+        }
+
+    pub brings-unreached : {o₁ o₂ : List ℕ} {a d : ℕ} → (word ≡ 0x1_0000 → ⊥) → (word % 2 ≡ 1 → ⊥) → Puts out at (text "restore ") o₁ a → Puts o₁ a (decimalOf (word / 0x2_0000)) o₂ d
+        → Puts o₂ d (text " unreached\n") out′ r → Brought (savedOf saved waiting) regs pos ring regs′ pos′ ring′ out at out′ r
+    brings-unreached n e p q s =
+        record {
+          reached = b .reachable;
+          tells = b .exact;
+          did = record { says = rw (not-refused n, told false (omega arith), ← raises) (both (both p q) s); holds = b .holds };
+        }
