@@ -2,18 +2,22 @@
 -- Assumes nothing.
 use Prim.Native.Nat.{ℕ, zero, suc, _+_, _*_, _/_, _%_, _≤_, _<_, min}
 use mathlib.Core.Path.{_≡_, refl, sym, ap, _∙_}
+use mathlib.Core.Logic.{_⊎_, inl, inr}
 use mathlib.Core.Bool.{Bool, true, false, cond}
 use mathlib.Core.List.{List, [], _∷_, _++_, append-assoc, append-nil}
 use native.Mathlib.Nat.{mod-mod}
 use native.Mathlib.Decide.{decLt}
 use native.Mathlib.Omega.{arith}
 use borrow.Author.Tests.{lt-ltb, le-ltb}
+use lib.Dec.{eqb}
 use lib.ListN.{length, getD, take}
 use Rattle.common.specs.Lists.{some}
-use Rattle.serial.specs.Port.{readOf, writeOf, inputOf}
+use Rattle.serial.specs.Port.{Port, Out, Input, readOf, writeOf, inputOf, isOpen, inLoop, hasRoom, becomes, receives, takesNone, takesSome}
+use Rattle.serial.specs.Port.{Register, RBR-THR, IER, IIR-FCR, LCR, MCR, LSR, MSR, SCR, DLL, DLM, beyond, addressed, writeRegister, writeLine, writeIer}
 use Rattle.serial.specs.Ring.{queue}
 use Rattle.serial.specs.Layout.{capacity, portOf}
-use Rattle.serial.specs.Calls.{Reads, Writes, Takes}
+use Rattle.serial.specs.Calls.{Reads, Writes, Takes, writeWord, inputWord}
+use Rattle.serial.proofs.Bounds.{read-word}
 use Rattle.serial.proofs.RingLaws.{queue-length, queue-round, queue-split}
 use Rattle.serial_saved.specs.Saved.{Restore, savedOf, restoreOf}
 use Rattle.serial_saved.specs.Calls.{Restores}
@@ -24,37 +28,111 @@ use Rattle.words.specs.Hex.{byteAt, digitsOf}
 use Rattle.words.specs.Put.{Puts}
 use Rattle.words.specs.Text.{text}
 use Rattle.words.proofs.Putting.{both, instead}
-use Rattle.serial_lines.specs.Answers.{Did, DidRead, DidWrite, DidInput, Brought, givenIn, raisesSay, sentSays, takenSays, bytesSay, registersSay, waitingSay, portSays}
+use Rattle.serial_lines.specs.Inside.{sentPart, takenPart}
+use Rattle.serial_lines.specs.Answers.{Did, DidRead, DidWrite, DidInput, Brought, givenIn, raisesSay, readSays, sentSays, takenSays, bytesSay, registersSay, waitingSay, portSays}
 
 -- ---- The parts of a word
 
 module _ {out out′ : List ℕ} {at r : ℕ} (n : ℕ) where
-  pub none-sent : n < 256 → Puts out at (text "--") out′ r → Puts out at (sentSays n) out′ r
+  pub none-sent : n < 256 → Puts out at (text "--") out′ r → Puts out at (sentPart n) out′ r
   none-sent h p = rw (lt-ltb n 256 h) p
 
-  pub one-sent : 256 ≤ n → Puts out at (digitsOf (n % 256)) out′ r → Puts out at (sentSays n) out′ r
+  pub one-sent : 256 ≤ n → Puts out at (digitsOf (n % 256)) out′ r → Puts out at (sentPart n) out′ r
   one-sent h p = rw (le-ltb n 256 h) p
 
-  pub some-taken : n < 0x1_0000 → Puts out at (decimalOf n) out′ r → Puts out at (takenSays n) out′ r
+  pub some-taken : n < 0x1_0000 → Puts out at (decimalOf n) out′ r → Puts out at (takenPart n) out′ r
   some-taken h p = rw (lt-ltb n 0x1_0000 h) p
 
-  pub full : 0x1_0000 ≤ n → Puts out at (text "full") out′ r → Puts out at (takenSays n) out′ r
+  pub full : 0x1_0000 ≤ n → Puts out at (text "full") out′ r → Puts out at (takenPart n) out′ r
   full h p = rw (le-ltb n 0x1_0000 h) p
 
+-- A reply that is a byte is what a read says, and so are the raises.
+pub read-plainly : (o : Out) → o .reply < 256 → readSays o ≡ text "r " ++ digitsOf (o .reply) ++ raisesSay (o .raises)
+read-plainly o h = let parts = read-word o h in rw (parts .0, parts .1) refl
+
+-- A write sends its value or nothing.
+value-or-none : (p : Port) (g : Register) (value : ℕ) → (writeRegister p g value .sent ≡ []) ⊎ (writeRegister p g value .sent ≡ value ∷ [])
+unfolding writeRegister writeLine receives writeIer
+value-or-none p RBR-THR value = go (inLoop p) (hasRoom p)
+  where
+    go : (loops room : Bool) → let o = cond loops (cond room (receives p (value ∷ [])) (becomes p)) (writeLine p value) in (o .sent ≡ []) ⊎ (o .sent ≡ value ∷ [])
+    go true true = inl refl
+    go true false = inl refl
+    go false room = inr refl
+value-or-none p IER value = inl refl
+value-or-none p IIR-FCR value = inl refl
+value-or-none p LCR value = inl refl
+value-or-none p MCR value = inl refl
+value-or-none p LSR value = inl refl
+value-or-none p MSR value = inl refl
+value-or-none p SCR value = inl refl
+value-or-none p DLL value = inl refl
+value-or-none p DLM value = inl refl
+value-or-none p beyond value = inl refl
+
+write-parts : (o : Out) (value : ℕ) → value < 256 → (o .sent ≡ []) ⊎ (o .sent ≡ value ∷ [])
+    → (sentPart (writeWord o % 512) ≡ sentSays (o .sent)) × (writeWord o / 512 ≡ o .raises)
+write-parts o value h (inl e) =
+    let m : (0 + 512 * o .raises) % 512 ≡ 0 = omega arith in
+    rw e (rw m refl, omega arith)
+write-parts o value h (inr e) =
+    let m : (value + 256 + 512 * o .raises) % 512 ≡ value + 256 = omega arith in
+    let v : (value + 256) % 256 ≡ value = omega arith in
+    rw e (rw (m, le-ltb (value + 256) 256 (omega arith), v) refl, omega arith)
+
+-- No more bytes are taken than there is room for.
+few-taken : (p : Port) (bytes : List ℕ) → p .size ≡ capacity → inputOf p bytes .taken < 0x1_0000
+unfolding inputOf
+few-taken p bytes e = go (inLoop p) (eqb (length bytes) 0) (hasRoom p)
+  where
+    go : (loops none room : Bool) → cond loops (takesNone p false) (cond none (takesNone p false) (cond room (takesSome p bytes) (takesNone p true))) .taken < 0x1_0000
+    go true none room = omega arith
+    go false true room = omega arith
+    go false false true = omega (arith, e)
+    go false false false = omega arith
+
+input-parts : (i : Input) → i .taken < 0x1_0000 → (takenPart (inputWord i % 0x2_0000) ≡ takenSays (i .full) (i .taken)) × (inputWord i / 0x2_0000 ≡ i .raises)
+input-parts i h = go (i .full)
+  where
+    go : (f : Bool) → let word = i .taken + cond f 0x1_0000 0 + 0x2_0000 * i .raises in
+        (takenPart (word % 0x2_0000) ≡ takenSays f (i .taken)) × (word / 0x2_0000 ≡ i .raises)
+    go true =
+        let m : (i .taken + 0x1_0000 + 0x2_0000 * i .raises) % 0x2_0000 ≡ i .taken + 0x1_0000 = omega arith in
+        (rw (m, le-ltb (i .taken + 0x1_0000) 0x1_0000 (omega arith)) refl, omega arith)
+    go false =
+        let m : (i .taken + 0 + 0x2_0000 * i .raises) % 0x2_0000 ≡ i .taken = omega arith in
+        (rw (m, lt-ltb (i .taken) 0x1_0000 h) refl, omega arith)
+
 -- ---- One access
+
+size-of : (regs pos ring : List ℕ) → portOf regs pos ring .size ≡ capacity
+unfolding portOf
+size-of regs pos ring = refl
 
 module _ {out o₁ o₂ out′ : List ℕ} {at a b r : ℕ} {regs pos ring regs′ pos′ : List ℕ} {word : ℕ} where
   pub reads : (offset : ℕ) → Reads (λ p. readOf p offset) regs pos ring regs′ pos′ word → Puts out at (text "r ") o₁ a → Puts o₁ a (digitsOf (word % 256)) o₂ b
       → Puts o₂ b (raisesSay (word / 512)) out′ r → DidRead offset regs pos ring regs′ pos′ ring out at out′ r
   reads offset c p q s = record { says = rw (← c .answer) (both (both p q) s); holds = c .holds }
 
-  pub writes : (offset value : ℕ) {ring′ : List ℕ} → Writes (λ p. writeOf p offset value) regs pos ring regs′ pos′ ring′ word → Puts out at (text "w ") o₁ a
-      → Puts o₁ a (sentSays (word % 512)) o₂ b → Puts o₂ b (raisesSay (word / 512)) out′ r → DidWrite offset value regs pos ring regs′ pos′ ring′ out at out′ r
-  writes offset value c p q s = record { says = rw (← c .answer) (both (both p q) s); holds = c .holds }
+  pub writes : (offset value : ℕ) {ring′ : List ℕ} → value < 256 → Writes (λ p. writeOf p offset value) regs pos ring regs′ pos′ ring′ word
+      → Puts out at (text "w ") o₁ a → Puts o₁ a (sentPart (word % 512)) o₂ b → Puts o₂ b (raisesSay (word / 512)) out′ r
+      → DidWrite offset value regs pos ring regs′ pos′ ring′ out at out′ r
+  writes offset value h c p q s =
+      let o = writeOf (portOf regs pos ring) offset value in
+      let parts = write-parts o value h (value-or-none (portOf regs pos ring) (addressed (isOpen (portOf regs pos ring)) offset) value) in
+      record {
+        says = both (both p (instead (ap (λ (w : ℕ). sentPart (w % 512)) (c .answer) ∙ parts .0) q)) (instead (ap (λ (w : ℕ). raisesSay (w / 512)) (c .answer) ∙ ap raisesSay (parts .1)) s);
+        holds = c .holds;
+      }
 
   pub takes : (bytes : List ℕ) {ring′ : List ℕ} → Takes (λ p. inputOf p bytes) regs pos ring regs′ pos′ ring′ word → Puts out at (text "b ") o₁ a
-      → Puts o₁ a (takenSays (word % 0x2_0000)) o₂ b → Puts o₂ b (raisesSay (word / 0x2_0000)) out′ r → DidInput bytes regs pos ring regs′ pos′ ring′ out at out′ r
-  takes bytes c p q s = record { says = rw (← c .answer) (both (both p q) s); holds = c .holds }
+      → Puts o₁ a (takenPart (word % 0x2_0000)) o₂ b → Puts o₂ b (raisesSay (word / 0x2_0000)) out′ r → DidInput bytes regs pos ring regs′ pos′ ring′ out at out′ r
+  takes bytes c p q s =
+      let parts = input-parts (inputOf (portOf regs pos ring) bytes) (few-taken (portOf regs pos ring) bytes (size-of regs pos ring)) in
+      record {
+        says = both (both p (instead (ap (λ (w : ℕ). takenPart (w % 0x2_0000)) (c .answer) ∙ parts .0) q)) (instead (ap (λ (w : ℕ). raisesSay (w / 0x2_0000)) (c .answer) ∙ ap raisesSay (parts .1)) s);
+        holds = c .holds;
+      }
 
 -- ---- Bytes that wait
 

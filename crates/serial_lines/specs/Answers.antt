@@ -4,12 +4,12 @@ use mathlib.Core.Path.{_≡_}
 use mathlib.Core.Bool.{Bool, true, false, cond}
 use mathlib.Core.List.{List, [], _∷_, _++_}
 use mathlib.Core.Logic.{_↔_}
-use lib.Dec.{ltb, leb}
+use lib.Dec.{leb}
 use lib.ListN.{length, take, drop}
 use Rattle.common.specs.Lists.{some}
-use Rattle.serial.specs.Port.{Port, readOf, writeOf, inputOf, roomOf}
+use Rattle.serial.specs.Port.{Port, Out, Input, readOf, writeOf, inputOf, roomOf}
 use Rattle.serial.specs.Layout.{capacity, portOf}
-use Rattle.serial.specs.Calls.{readWord, writeWord, inputWord}
+use Rattle.serial.specs.Calls.{readWord}
 use Rattle.runs.specs.Reachable.{Reachable}
 use Rattle.serial_saved.specs.Saved.{Restore, savedOf, restoreOf}
 use Rattle.words.specs.Decimal.{decimalOf}
@@ -93,22 +93,24 @@ asks lent line =
 abbrev pub raisesSay : ℕ → List ℕ
 raisesSay raises = text " " ++ decimalOf raises ++ text "\n"
 
--- After a read, a write and an input: the parts of the word that the call answers, which are the reply, the byte sent or none, how many bytes were taken
--- or "full", and the raises.
-abbrev pub readSays : ℕ → List ℕ
-readSays word = text "r " ++ digitsOf (word % 256) ++ raisesSay (word / 512)
+-- After a read: the parts of the word that the call answers, the reply and the raises (`read-plainly`).
+abbrev pub readSays : Out → List ℕ
+readSays o = text "r " ++ digitsOf (readWord o % 256) ++ raisesSay (readWord o / 512)
 
-abbrev pub sentSays : ℕ → List ℕ
-sentSays sent = cond (ltb sent 256) (text "--") (digitsOf (sent % 256))
+-- After a write: the byte that was sent, or that there was none.
+abbrev pub sentSays : List ℕ → List ℕ
+sentSays [] = text "--"
+sentSays (byte ∷ rest) = digitsOf byte
 
-abbrev pub writeSays : ℕ → List ℕ
-writeSays word = text "w " ++ sentSays (word % 512) ++ raisesSay (word / 512)
+abbrev pub writeSays : Out → List ℕ
+writeSays o = text "w " ++ sentSays (o .sent) ++ raisesSay (o .raises)
 
-abbrev pub takenSays : ℕ → List ℕ
-takenSays taken = cond (ltb taken 0x1_0000) (decimalOf taken) (text "full")
+-- After an input: how many bytes were taken, or that there was no room for one.
+abbrev pub takenSays : Bool → ℕ → List ℕ
+takenSays full taken = cond full (text "full") (decimalOf taken)
 
-abbrev pub inputSays : ℕ → List ℕ
-inputSays word = text "b " ++ takenSays (word % 0x2_0000) ++ raisesSay (word / 0x2_0000)
+abbrev pub inputSays : Input → List ℕ
+inputSays i = text "b " ++ takenSays (i .full) (i .taken) ++ raisesSay (i .raises)
 
 abbrev pub roomSays : ℕ → List ℕ
 roomSays room = text "room " ++ decimalOf room ++ text "\n"
@@ -137,9 +139,9 @@ restoreSays o reached =
     cond (o .refused) (text "restore full\n") (text "restore " ++ decimalOf (o .raises) ++ cond reached (text " reached\n") (text " unreached\n"))
 
 abbrev pub says : Asks → Port → Bool → List ℕ
-says (read offset) p reached = readSays (readWord (readOf p offset))
-says (write offset value) p reached = writeSays (writeWord (writeOf p offset value))
-says (input bytes) p reached = inputSays (inputWord (inputOf p bytes))
+says (read offset) p reached = readSays (readOf p offset)
+says (write offset value) p reached = writeSays (writeOf p offset value)
+says (input bytes) p reached = inputSays (inputOf p bytes)
 says showRoom p reached = roomSays (roomOf p)
 says showState p reached = text "state" ++ portSays p
 says save p reached = text "save" ++ portSays p
@@ -191,15 +193,15 @@ pub record Did (said : List ℕ) (port : Port) (regs′ pos′ ring′ out : Lis
 
 abbrev pub DidRead : ℕ → List ℕ → List ℕ → List ℕ → List ℕ → List ℕ → List ℕ → List ℕ → ℕ → List ℕ → ℕ → Type 0
 DidRead offset regs pos ring regs′ pos′ ring′ out at out′ r =
-    let o = readOf (portOf regs pos ring) offset in Did (readSays (readWord o)) (o .port) regs′ pos′ ring′ out at out′ r
+    let o = readOf (portOf regs pos ring) offset in Did (readSays o) (o .port) regs′ pos′ ring′ out at out′ r
 
 abbrev pub DidWrite : ℕ → ℕ → List ℕ → List ℕ → List ℕ → List ℕ → List ℕ → List ℕ → List ℕ → ℕ → List ℕ → ℕ → Type 0
 DidWrite offset value regs pos ring regs′ pos′ ring′ out at out′ r =
-    let o = writeOf (portOf regs pos ring) offset value in Did (writeSays (writeWord o)) (o .port) regs′ pos′ ring′ out at out′ r
+    let o = writeOf (portOf regs pos ring) offset value in Did (writeSays o) (o .port) regs′ pos′ ring′ out at out′ r
 
 abbrev pub DidInput : List ℕ → List ℕ → List ℕ → List ℕ → List ℕ → List ℕ → List ℕ → List ℕ → ℕ → List ℕ → ℕ → Type 0
 DidInput bytes regs pos ring regs′ pos′ ring′ out at out′ r =
-    let i = inputOf (portOf regs pos ring) bytes in Did (inputSays (inputWord i)) (i .port) regs′ pos′ ring′ out at out′ r
+    let i = inputOf (portOf regs pos ring) bytes in Did (inputSays i) (i .port) regs′ pos′ ring′ out at out′ r
 
 -- A port was brought back.
 pub record Brought (saved : Port) (regs pos ring regs′ pos′ ring′ out : List ℕ) (at : ℕ) (out′ : List ℕ) (r : ℕ) : Type 0 where

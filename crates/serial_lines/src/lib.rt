@@ -20,13 +20,15 @@ ghost use Prim.Native.Nat.{ℕ, _+_, _≤_, _<_, min};
 ghost use mathlib.Core.Path.{_≡_};
 ghost use mathlib.Core.List.{List, _++_};
 ghost use lib.ListN.{drop};
+ghost use Rattle.serial.specs.Calls.{Begins};
 ghost use Rattle.serial.specs.Layout.{capacity, portOf};
 ghost use Rattle.serial.specs.Port.{roomOf};
 ghost use Rattle.serial.specs.Ring.{queue};
 ghost use Rattle.serial_saved.specs.Saved.{savedOf};
 ghost use Rattle.words.specs.Put.{Puts};
 ghost use Rattle.words.specs.Text.{text};
-ghost use Rattle.serial_lines.specs.Answers.{Answers, AnswersLine, asksWith, input, DidRead, DidWrite, DidInput, lends, asks, raisesSay, sentSays, takenSays, roomSays};
+ghost use Rattle.serial_lines.specs.Answers.{Answers, AnswersLine, asksWith, input, DidRead, DidWrite, DidInput, lends, asks, raisesSay, roomSays};
+ghost use Rattle.serial_lines.specs.Inside.{sentPart, takenPart};
 ghost use Rattle.serial_lines.specs.Answers.{nextByte, bytesSay, registersSay, waitingSay, portSays};
 
 // The serial port's state, which the caller lends: its registers, where its waiting bytes start and
@@ -44,7 +46,9 @@ const CAPACITY: usize = 64;
 pub const NONE: u32 = 65;
 
 // Makes the serial port a fresh one.
-pub fn begin(regs: &mut Regs, pos: &mut Pos) {
+pub fn begin(regs: &mut Regs, pos: &mut Pos)
+    ensures { λ r. ⌜ Begins (now (regs .exit)) (now (pos .exit)) ⌝ }
+{
     serialpost_serial_init(regs, pos);
 }
 
@@ -126,7 +130,7 @@ fn read(
 // The byte that was sent, behind 256, or a number below that for none.
 fn put_sent(out: &mut Block, at: usize, sent: u32) -> usize
     requires { ⌜ at + 2 ≤ 65536 ⌝ }
-    ensures { λ r. ⌜ Puts (now (out .entry)) at (sentSays sent) (now (out .exit)) r ⌝ }
+    ensures { λ r. ⌜ Puts (now (out .entry)) at (sentPart sent) (now (out .exit)) r ⌝ }
     ensures { λ r. ⌜ r ≤ at + 2 ⌝ }
 {
     if sent < 256 {
@@ -187,7 +191,7 @@ fn input(
 // How many bytes were taken, or a number from 0x1_0000 on for a full buffer.
 fn put_taken(out: &mut Block, at: usize, taken: u32) -> usize
     requires { ⌜ at + 20 ≤ 65536 ⌝ }
-    ensures { λ r. ⌜ Puts (now (out .entry)) at (takenSays taken) (now (out .exit)) r ⌝ }
+    ensures { λ r. ⌜ Puts (now (out .entry)) at (takenPart taken) (now (out .exit)) r ⌝ }
     ensures { λ r. ⌜ r ≤ at + 20 ⌝ }
 {
     if taken < 0x1_0000 {

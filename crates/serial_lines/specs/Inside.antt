@@ -1,0 +1,16 @@
+-- What the functions of the code promise each other of a word's parts. No reader has to believe it: it is proved, and no answer speaks of it.
+use Prim.Native.Nat.{ℕ, _%_}
+use mathlib.Core.Bool.{cond}
+use mathlib.Core.List.{List}
+use lib.Dec.{ltb}
+use Rattle.words.specs.Decimal.{decimalOf}
+use Rattle.words.specs.Hex.{digitsOf}
+use Rattle.words.specs.Text.{text}
+
+-- The byte that was sent, behind 256, or a number below that for none.
+abbrev pub sentPart : ℕ → List ℕ
+sentPart sent = cond (ltb sent 256) (text "--") (digitsOf (sent % 256))
+
+-- How many bytes were taken, or a number from 0x1_0000 on for a full buffer.
+abbrev pub takenPart : ℕ → List ℕ
+takenPart taken = cond (ltb taken 0x1_0000) (decimalOf taken) (text "full")
