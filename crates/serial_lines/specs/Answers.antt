@@ -93,7 +93,7 @@ asks lent line =
 abbrev pub raisesSay : ℕ → List ℕ
 raisesSay raises = text " " ++ decimalOf raises ++ text "\n"
 
--- After a read: the parts of the word that the call answers, the reply and the raises (`read-plainly`).
+-- After a read: the parts of the word that the call answers. Where the reply is a byte they are the reply and the raises (`read-plainly`).
 abbrev pub readSays : Out → List ℕ
 readSays o = text "r " ++ digitsOf (readWord o % 256) ++ raisesSay (readWord o / 512)
 

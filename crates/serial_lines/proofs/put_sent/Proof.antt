@@ -2,6 +2,7 @@
 -- Assumes nothing.
 use Rattle.serial_lines.proofs.Saying.{none-sent, one-sent}
 use native.Mathlib.Omega.{arith}
+use native.Mathlib.Omega.{arith}
 use borrow.Author.Needs.{needs}
 use Rattle.serial_lines.proofs.put_sent.Statement.{statement}
 use Rattle.serial_lines.proofs.put_sent.Tie as tie
@@ -13,7 +14,7 @@ put-requires : tie.Need-put-requires
 put-requires c κs = search needs
 
 returns : tie.Need-returns
-returns c = (none-sent _ (c .before .before .before .if1 .taken) (c .put .ensures), search needs)
+returns c = (none-sent (c .before .before .before .before .args .sent) (omega arith) (c .put .ensures), search needs)
 
 cast-put-byte : tie.Need-cast-put-byte
 cast-put-byte c = search needs
@@ -22,7 +23,7 @@ put-byte-requires : tie.Need-put-byte-requires
 put-byte-requires c κs = search needs
 
 returns-2 : tie.Need-returns-2
-returns-2 c = (one-sent _ (c .before .before .if1 .left) (c .put-byte .ensures .0), search needs)
+returns-2 c = (one-sent (c .before .before .before .args .sent) (omega arith) (c .put-byte .ensures .0), search needs)
 
 pub put-sent-spec : {M : Type 1} → statement M
 put-sent-spec =

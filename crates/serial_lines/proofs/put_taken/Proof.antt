@@ -2,6 +2,7 @@
 -- Assumes nothing.
 use Rattle.serial_lines.proofs.Saying.{some-taken, full}
 use native.Mathlib.Omega.{arith}
+use native.Mathlib.Omega.{arith}
 use borrow.Author.Needs.{needs}
 use Rattle.serial_lines.proofs.put_taken.Statement.{statement}
 use Rattle.serial_lines.proofs.put_taken.Tie as tie
@@ -10,7 +11,7 @@ put-decimal-requires : tie.Need-put-decimal-requires
 put-decimal-requires c κs = search needs
 
 returns : tie.Need-returns
-returns c = (some-taken _ (c .before .before .if1 .taken) (c .put-decimal .ensures .0), search needs)
+returns c = (some-taken (c .before .before .before .args .taken) (omega arith) (c .put-decimal .ensures .0), search needs)
 
 slice-aggregate-put : tie.Need-slice-aggregate-put
 slice-aggregate-put c = search needs
@@ -19,7 +20,7 @@ put-requires : tie.Need-put-requires
 put-requires c κs = search needs
 
 returns-2 : tie.Need-returns-2
-returns-2 c = (full _ (c .before .before .before .if1 .left) (c .put .ensures), search needs)
+returns-2 c = (full (c .before .before .before .before .args .taken) (omega arith) (c .put .ensures), search needs)
 
 pub put-taken-spec : {M : Type 1} → statement M
 put-taken-spec =
