@@ -27,8 +27,9 @@ long: $(REPLAY)
 speed: $(REPLAY)
 	@compare/speed $(REPLAY) $(DEVICES)
 
-# `rt` knows what has changed since it last proved a crate.
+# `rt` knows what has changed since it last proved a crate. What it prints is shown where it fails.
 $(REPLAY):
+	@[ -x $(REPLAY) ] || echo "proving the devices: some minutes the first time" >&2
 	@mkdir -p target && rt check replay > target/check-replay.txt || { cat target/check-replay.txt; exit 1; }
 
 help:
