@@ -3,9 +3,9 @@ LIST ?= lists/story.list
 N ?= 10000000
 SEED ?= 1
 DEVICES = i8042 clock serial
-REPLAY = target/bin/replay
+REPLAY = target/replay
 
-.PHONY: help replay test lists long speed $(REPLAY)
+.PHONY: help replay test quick lists long speed $(REPLAY)
 
 ## make replay [LIST=FILE]: prove the devices, then print each access of a list beside what they answer
 replay: $(REPLAY)
@@ -14,6 +14,10 @@ replay: $(REPLAY)
 ## make test: the whole gate; its last line is `N passed, M failed`
 test:
 	@./gate
+
+## make quick: what to run after each change: the crates that changed, the lists, the judge on a small set, the documents
+quick:
+	@./gate --quick
 
 ## make lists: hold what the devices answer to every list under lists/
 lists: $(REPLAY)
@@ -27,10 +31,10 @@ long: $(REPLAY)
 speed: $(REPLAY)
 	@compare/speed $(REPLAY) $(DEVICES)
 
-# `rt` knows what has changed since it last proved a crate. What it prints is shown where it fails.
+# `rt` knows what has changed since it last proved a crate.
 $(REPLAY):
-	@[ -x $(REPLAY) ] || echo "proving the devices: some minutes the first time" >&2
-	@mkdir -p target && rt check replay > target/check-replay.txt || { cat target/check-replay.txt; exit 1; }
+	@[ -e $(REPLAY) ] || echo "proving the devices, the first time some minutes: a line for each crate" >&2
+	@hosts/replay > /dev/null
 
 help:
 	@sed -n 's/^## //p' $(MAKEFILE_LIST)

@@ -72,21 +72,31 @@ def is_a_missing_program_trouble():
         return status(*LISTS, "check", os.path.join(folder, "none"), written(folder, "i8042 => i8042\n")) == 2
 
 
-def gate():
-    loader = importlib.machinery.SourceFileLoader("gate", os.path.join(ROOT, "gate"))
-    module = importlib.util.module_from_spec(importlib.util.spec_from_loader("gate", loader))
+def loaded(path):
+    """A program of the repository as a module."""
+    loader = importlib.machinery.SourceFileLoader(os.path.basename(path), os.path.join(ROOT, path))
+    module = importlib.util.module_from_spec(importlib.util.spec_from_loader(loader.name, loader))
     loader.exec_module(module)
     return module
 
 
-def gate_counts(command):
-    """What the gate counts of a stage, with its echo of the stage's output put aside."""
+def shell(command):
+    return ["sh", "-c", command]
+
+
+def silently(function, *arguments):
+    """What a function answers, with what it prints put aside."""
     with open(os.devnull, "w", encoding="ascii") as nowhere:
         kept, sys.stdout = sys.stdout, nowhere
         try:
-            return gate().counted(["sh", "-c", command])
+            return function(*arguments)
         finally:
             sys.stdout = kept
+
+
+def gate_counts(command):
+    """How many the gate counts of a stage as passed and as failed."""
+    return silently(loaded("gate").counted, shell(command))[:2]
 
 
 def does_the_gate_count_a_stage():
@@ -103,6 +113,101 @@ def does_the_gate_distrust_a_count_with_a_bad_status():
 
 def does_the_gate_distrust_silence():
     return gate_counts("true")[1] > 0
+
+
+def gate_fails(first, then):
+    """How many of its stages the gate counts as failed."""
+    results = silently(loaded("gate").run_all, [shell(command) for command in first], [[shell(command) for command in rank] for rank in then])
+    return sum(failed > 0 for _, (_, failed, _) in results)
+
+
+GOOD = "echo '1 passed, 0 failed'"
+
+
+def does_the_gate_run_all_stages():
+    return gate_fails([GOOD], [[GOOD, "false"], [GOOD]]) == 1
+
+
+def does_the_gate_stop_where_nothing_is_proved():
+    return gate_fails(["false", GOOD], [[GOOD], [GOOD]]) == 4
+
+
+def edits_verdict(code, log):
+    return loaded("tests/edits").verdict(code, log)[0]
+
+
+FACT = "x/proofs/f/Proof.antt:1:1: error: `returns`: `omega`: the goal does not follow from what it read.\n"
+CONSEQUENCE = "x/proofs/g/Proof.antt:1:1: error: `g-spec`: `close` was not admitted (it was rejected), so this cannot be checked\n"
+SHAPE = "x/proofs/f/Proof.antt:1:1: error: `tie` has no `Need-returns-3` that can be named from here\n"
+REFUSED = "logic=not-proved\n"
+
+
+def is_an_edit_refused_for_a_fact_taken():
+    return edits_verdict(1, FACT + REFUSED) and edits_verdict(1, CONSEQUENCE + FACT + REFUSED)
+
+
+def is_an_edit_refused_for_its_shape_seen():
+    return not edits_verdict(1, SHAPE + FACT + REFUSED) and not edits_verdict(1, CONSEQUENCE + REFUSED)
+
+
+def is_an_edit_that_never_reached_the_prover_seen():
+    return not edits_verdict(1, FACT) and not edits_verdict(2, FACT + REFUSED)
+
+
+SEVEN = """ghost use mathlib.Core.Path.{_≡_};
+
+pub fn seven() -> u8
+    ensures { λ r. ⌜ r ≡ 7 ⌝ }
+{
+    7
+}
+"""
+
+
+def edits_say(edit):
+    """Whether the runner of the edits passes a crate of one function that answers 7, proved, with one edit."""
+    with tempfile.TemporaryDirectory() as folder:
+        crate = os.path.join(folder, "crates", "seven")
+        for name, text in {"src/lib.rt": SEVEN, "must-fail/incremental/some.edit": edit}.items():
+            path = os.path.join(crate, name)
+            os.makedirs(os.path.dirname(path))
+            with open(path, "w", encoding="utf-8") as file:
+                file.write(text)
+        with open(os.path.join(folder, "crates.txt"), "w", encoding="ascii") as file:
+            file.write("seven:\n")
+        os.mkdir(os.path.join(folder, "tests"))
+        shutil.copy(os.path.join(ROOT, "tests", "edits"), os.path.join(folder, "tests"))
+        subprocess.run(["rt", "check"], cwd=folder, stdout=subprocess.DEVNULL, check=True)
+        return status(os.path.join(folder, "tests", "edits")) == 0
+
+
+def is_a_wrong_answer_refused():
+    return edits_say("file: src/lib.rt\nold:     7\nnew:     8\n")
+
+
+def is_a_harmless_edit_seen():
+    return not edits_say("file: src/lib.rt\nold:     7\nnew:     3 + 4\n")
+
+
+def is_an_edit_of_nothing_seen():
+    return not edits_say("file: src/lib.rt\nold:     9\nnew:     8\n") and not edits_say("new: 8\n")
+
+
+def is_a_kit_that_has_changed_told_in_one_line():
+    """A kit with an `rt` and no compiler for this machine."""
+    with tempfile.TemporaryDirectory() as folder:
+        path = os.path.join(folder, "rt")
+        with open(path, "w", encoding="ascii") as file:
+            file.write(f"#!/bin/sh\necho {folder}/docs/START-HERE.md\n")
+        os.chmod(path, 0o755)
+        run = subprocess.run(
+            [os.path.join(ROOT, "hosts/native"), "serialpost"],
+            env={**os.environ, "PATH": folder + os.pathsep + os.environ["PATH"]},
+            capture_output=True,
+            text=True,
+            check=False,
+        )
+        return run.returncode == 1 and run.stdout == "" and run.stderr.count("\n") == 1 and "the kit has changed" in run.stderr
 
 
 def docs_status(break_it):
@@ -155,6 +260,15 @@ TESTS = [
     does_the_gate_see_a_failure,
     does_the_gate_distrust_a_count_with_a_bad_status,
     does_the_gate_distrust_silence,
+    does_the_gate_run_all_stages,
+    does_the_gate_stop_where_nothing_is_proved,
+    is_an_edit_refused_for_a_fact_taken,
+    is_an_edit_refused_for_its_shape_seen,
+    is_an_edit_that_never_reached_the_prover_seen,
+    is_a_wrong_answer_refused,
+    is_a_harmless_edit_seen,
+    is_an_edit_of_nothing_seen,
+    is_a_kit_that_has_changed_told_in_one_line,
     do_the_documents_hold_as_they_are,
     is_a_row_without_a_list_seen,
     is_a_constructor_without_a_row_seen,

@@ -1,4 +1,5 @@
-//! Links libserialpost.a: from the directory that SERIALPOST_LIB_DIR names, or from where `hosts/library` puts it.
+//! Links libserialpost.a: from the directory that SERIALPOST_LIB_DIR names, or from where `hosts/library` puts the one for
+//! the target that this crate is built for.
 
 use std::env;
 use std::path::{Path, PathBuf};
@@ -6,7 +7,9 @@ use std::process::exit;
 
 fn main() {
     println!("cargo:rerun-if-env-changed=SERIALPOST_LIB_DIR");
-    let built_here = || Path::new(env!("CARGO_MANIFEST_DIR")).join("../../target/lib");
+    let target = env::var("TARGET").expect("cargo names the target");
+    let folder = format!("../../target/lib/{target}");
+    let built_here = || Path::new(env!("CARGO_MANIFEST_DIR")).join(folder);
     let directory = env::var_os("SERIALPOST_LIB_DIR").map_or_else(built_here, PathBuf::from);
     let archive = directory.join("libserialpost.a");
     println!("cargo:rerun-if-changed={}", archive.display());

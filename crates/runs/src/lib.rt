@@ -76,8 +76,7 @@ fn play_one(
 
 // Plays a whole run on the port and writes one word of answer for each of its operations: true. What
 // is no run, or asks more than there is room to answer, is refused and changes nothing: false.
-#[no_mangle]
-pub extern "C" fn serialpost_serial_play(
+pub fn serialpost_serial_play(
     regs: &mut [u8; 9],
     pos: &mut [u32; 2],
     ring: &mut [u8; 64],

@@ -25,8 +25,7 @@ ghost use Rattle.serial.specs.Port.{readOf, writeOf, inputOf};
 ghost use Rattle.serial.specs.Calls.{Reads, Writes, Takes, Begins, HasRoom};
 
 // A fresh port; its storage may hold anything.
-#[no_mangle]
-pub extern "C" fn serialpost_serial_init(regs: &mut [u8; 9], pos: &mut [u32; 2])
+pub fn serialpost_serial_init(regs: &mut [u8; 9], pos: &mut [u32; 2])
     ensures { λ r. ⌜ Begins (now (regs .exit)) (now (pos .exit)) ⌝ }
 {
     memory::nine(regs);
@@ -63,8 +62,7 @@ fn is_status_or_control(offset: u8) -> bool
 }
 
 // The guest reads at `offset`: the reply, and 512 for each interrupt to raise.
-#[no_mangle]
-pub extern "C" fn serialpost_serial_read(
+pub fn serialpost_serial_read(
     regs: &mut [u8; 9],
     pos: &mut [u32; 2],
     ring: &[u8; 64],
@@ -108,8 +106,7 @@ pub extern "C" fn serialpost_serial_read(
 
 // The guest writes `value` at `offset`: the byte to send and 256, where there is one, and 512 for
 // each interrupt to raise.
-#[no_mangle]
-pub extern "C" fn serialpost_serial_write(
+pub fn serialpost_serial_write(
     regs: &mut [u8; 9],
     pos: &mut [u32; 2],
     ring: &mut [u8; 64],
@@ -157,8 +154,7 @@ pub extern "C" fn serialpost_serial_write(
 
 // Bytes from the host's side of the line: how many were taken, 0x1_0000 for "full", and 0x2_0000
 // for each interrupt to raise.
-#[no_mangle]
-pub extern "C" fn serialpost_serial_input(
+pub fn serialpost_serial_input(
     regs: &mut [u8; 9],
     pos: &mut [u32; 2],
     ring: &mut [u8; 64],
@@ -186,8 +182,7 @@ pub extern "C" fn serialpost_serial_input(
 }
 
 // How many more bytes the port can take.
-#[no_mangle]
-pub extern "C" fn serialpost_serial_room(pos: &[u32; 2]) -> u32
+pub fn serialpost_serial_room(pos: &[u32; 2]) -> u32
     ensures { λ r. ⌜ HasRoom (now (pos .entry)) r ⌝ }
 {
     ring::CAPACITY - ring::count(pos)

@@ -1,0 +1,5 @@
+// The library: every function that a host calls, with its contract. The code stands in the devices' crates; include/serialpost.h
+// says what each call is for.
+mod real_time_clock;
+mod reset;
+mod serial_port;

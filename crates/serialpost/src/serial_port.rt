@@ -1,0 +1,116 @@
+// The 16550 serial port.
+ghost use Rattle.serial.specs.Port.{readOf, writeOf, inputOf};
+ghost use Rattle.serial.specs.Calls.{Begins, Reads, Writes, Takes, HasRoom};
+ghost use Rattle.runs.specs.Play.{Plays};
+ghost use Rattle.serial_saved.specs.Calls.{Saves, Restores};
+ghost use Rattle.serial_form.specs.Form.{readForm};
+ghost use Rattle.serial_form.specs.Calls.{Encodes, Decodes};
+
+#[no_mangle]
+pub extern "C" fn serialpost_serial_init(regs: &mut [u8; 9], pos: &mut [u32; 2])
+    ensures { λ r. ⌜ Begins (now (regs .exit)) (now (pos .exit)) ⌝ }
+{
+    serial::serialpost_serial_init(regs, pos);
+}
+
+#[no_mangle]
+pub extern "C" fn serialpost_serial_read(
+    regs: &mut [u8; 9],
+    pos: &mut [u32; 2],
+    ring: &[u8; 64],
+    offset: u8,
+) -> u32
+    ensures { λ r. ⌜ Reads (λ p. readOf p offset) (now (regs .entry)) (now (pos .entry)) (now (ring .entry)) (now (regs .exit)) (now (pos .exit)) r ⌝ }
+{
+    serial::serialpost_serial_read(regs, pos, ring, offset)
+}
+
+#[no_mangle]
+pub extern "C" fn serialpost_serial_write(
+    regs: &mut [u8; 9],
+    pos: &mut [u32; 2],
+    ring: &mut [u8; 64],
+    offset: u8,
+    value: u8,
+) -> u32
+    ensures { λ r. ⌜ Writes (λ p. writeOf p offset value) (now (regs .entry)) (now (pos .entry)) (now (ring .entry)) (now (regs .exit)) (now (pos .exit)) (now (ring .exit)) r ⌝ }
+{
+    serial::serialpost_serial_write(regs, pos, ring, offset, value)
+}
+
+#[no_mangle]
+pub extern "C" fn serialpost_serial_input(
+    regs: &mut [u8; 9],
+    pos: &mut [u32; 2],
+    ring: &mut [u8; 64],
+    input: &[u8],
+) -> u32
+    ensures { λ r. ⌜ Takes (λ p. inputOf p (now (input .entry))) (now (regs .entry)) (now (pos .entry)) (now (ring .entry)) (now (regs .exit)) (now (pos .exit)) (now (ring .exit)) r ⌝ }
+{
+    serial::serialpost_serial_input(regs, pos, ring, input)
+}
+
+#[no_mangle]
+pub extern "C" fn serialpost_serial_room(pos: &[u32; 2]) -> u32
+    ensures { λ r. ⌜ HasRoom (now (pos .entry)) r ⌝ }
+{
+    serial::serialpost_serial_room(pos)
+}
+
+#[no_mangle]
+pub extern "C" fn serialpost_serial_play(
+    regs: &mut [u8; 9],
+    pos: &mut [u32; 2],
+    ring: &mut [u8; 64],
+    ops: &[u8],
+    inputs: &[u8],
+    answers: &mut [u32],
+) -> bool
+    ensures { λ r. ⌜ Plays (now (regs .entry)) (now (pos .entry)) (now (ring .entry)) (now (ops .entry)) (now (inputs .entry)) (now (answers .entry)) (now (regs .exit)) (now (pos .exit)) (now (ring .exit)) (now (answers .exit)) r ⌝ }
+{
+    runs::serialpost_serial_play(regs, pos, ring, ops, inputs, answers)
+}
+
+#[no_mangle]
+pub extern "C" fn serialpost_serial_save(
+    regs: &[u8; 9],
+    pos: &[u32; 2],
+    ring: &[u8; 64],
+    saved: &mut [u8; 9],
+    waiting: &mut [u8; 64],
+) -> u32
+    ensures { λ r. ⌜ Saves (now (regs .entry)) (now (pos .entry)) (now (ring .entry)) (now (waiting .entry)) (now (saved .exit)) (now (waiting .exit)) r ⌝ }
+{
+    serial_saved::serialpost_serial_save(regs, pos, ring, saved, waiting)
+}
+
+#[no_mangle]
+pub extern "C" fn serialpost_serial_restore(
+    regs: &mut [u8; 9],
+    pos: &mut [u32; 2],
+    ring: &mut [u8; 64],
+    saved: &[u8; 9],
+    waiting: &[u8],
+) -> u32
+    ensures { λ r. ⌜ Restores (now (regs .entry)) (now (pos .entry)) (now (ring .entry)) (now (saved .entry)) (now (waiting .entry)) (now (regs .exit)) (now (pos .exit)) (now (ring .exit)) r ⌝ }
+{
+    serial_saved::serialpost_serial_restore(regs, pos, ring, saved, waiting)
+}
+
+#[no_mangle]
+pub extern "C" fn serialpost_serial_encode(saved: &[u8; 9], waiting: &[u8], form: &mut [u8]) -> u32
+    ensures { λ r. ⌜ Encodes (now (saved .entry)) (now (waiting .entry)) (now (form .entry)) (now (form .exit)) r ⌝ }
+{
+    serial_form::serialpost_serial_encode(saved, waiting, form)
+}
+
+#[no_mangle]
+pub extern "C" fn serialpost_serial_decode(
+    form: &[u8],
+    saved: &mut [u8; 9],
+    waiting: &mut [u8; 64],
+) -> u32
+    ensures { λ r. ⌜ Decodes (readForm (now (form .entry))) (now (saved .entry)) (now (waiting .entry)) (now (saved .exit)) (now (waiting .exit)) r ⌝ }
+{
+    serial_form::serialpost_serial_decode(form, saved, waiting)
+}
