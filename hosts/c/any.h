@@ -38,7 +38,7 @@ struct fenced {
     bool at_end;
 };
 
-static struct fenced fence(bool at_end)
+static inline struct fenced fence(bool at_end)
 {
     size_t size = (size_t)sysconf(_SC_PAGESIZE);
     uint8_t *pages = mmap(NULL, 3 * size, PROT_NONE, MAP_PRIVATE | MAP_ANONYMOUS, -1, 0);
@@ -47,7 +47,7 @@ static struct fenced fence(bool at_end)
 }
 
 /* The `size` bytes of it that lie against the fence. */
-static void *lent(struct fenced memory, size_t size)
+static inline void *lent(struct fenced memory, size_t size)
 {
     return memory.at_end ? memory.page + memory.page_size - size : memory.page;
 }
