@@ -1,0 +1,261 @@
+// The devices of serialpost.wasm for a JavaScript host. include/serialpost.h says what each call does; what is shown
+// there as a pointer is an address in the module's memory, and 64-bit numbers and lengths are BigInt.
+
+const CALLS = [
+    "serial_init", "serial_read", "serial_write", "serial_input", "serial_room", "serial_play",
+    "serial_save", "serial_restore", "serial_encode", "serial_decode",
+    "clock_init", "clock_read", "clock_write", "clock_save", "clock_restore", "clock_encode", "clock_decode",
+    "i8042_read", "i8042_write",
+].map((name) => `serialpost_${name}`);
+
+const PAGE = 65536;
+const CAPACITY = 64;
+const REFUSED = 0x10000;
+const REASONS = [undefined, "too short", "trailing", "version", "too many", "offset"];
+
+/** A loaded module: its functions, and memory to lend to them. */
+export class Library {
+    constructor(wasm) {
+        const exported = new WebAssembly.Instance(new WebAssembly.Module(wasm)).exports;
+        const { memory, __heap_base: heap } = exported;
+        if (!(memory instanceof WebAssembly.Memory) || !(heap instanceof WebAssembly.Global))
+            throw new Error("exports no memory, or does not say where it is free");
+        const missing = CALLS.find((name) => typeof exported[name] !== "function");
+        if (missing !== undefined)
+            throw new Error(`exports no ${missing}`);
+        this.calls = Object.fromEntries(Object.entries(exported).filter(([, value]) => typeof value === "function"));
+        this.memory = memory;
+        this.free = heap.value;
+    }
+
+    /** The address of `size` bytes that nobody else has, aligned for any type. */
+    reserve(size) {
+        const address = (this.free + 7) & ~7;
+        this.free = address + size;
+        const lacking = this.free - this.memory.buffer.byteLength;
+        if (lacking > 0)
+            this.memory.grow(Math.ceil(lacking / PAGE));
+        return address;
+    }
+
+    /** Does `work`, and takes back what it reserved. */
+    lending(work) {
+        const before = this.free;
+        try {
+            return work();
+        } finally {
+            this.free = before;
+        }
+    }
+
+    /** The address of a copy of these bytes. */
+    copied(bytes) {
+        const address = this.reserve(bytes.length);
+        new Uint8Array(this.memory.buffer).set(bytes, address);
+        return address;
+    }
+
+    /** A copy of the bytes that lie there. */
+    bytes(address, length) {
+        return new Uint8Array(this.memory.buffer).slice(address, address + length);
+    }
+
+    view(address, length) {
+        return new DataView(this.memory.buffer, address, length);
+    }
+}
+
+const lengthOf = (array) => BigInt(array.length);
+
+/** Why a form is refused, or undefined where the answer is a number. */
+const reasonOf = (answer) => (answer & REFUSED ? REASONS[answer - REFUSED] : undefined);
+
+/** A 16550. A saved port is `{ regs, waiting }`, both bytes. */
+export class SerialPort {
+    constructor(library) {
+        this.library = library;
+        this.regs = library.reserve(9);
+        this.pos = library.reserve(8);
+        this.ring = library.reserve(CAPACITY);
+        this.init();
+    }
+
+    get parts() {
+        return [this.regs, this.pos, this.ring];
+    }
+
+    init() {
+        this.library.calls.serialpost_serial_init(this.regs, this.pos);
+    }
+
+    /** The word that the call answers: the header says how to take it apart. So for the three below. */
+    read(offset) {
+        return this.library.calls.serialpost_serial_read(...this.parts, offset) >>> 0;
+    }
+
+    write(offset, value) {
+        return this.library.calls.serialpost_serial_write(...this.parts, offset, value) >>> 0;
+    }
+
+    input(bytes) {
+        const { calls } = this.library;
+        return this.library.lending(
+            () => calls.serialpost_serial_input(...this.parts, this.library.copied(bytes), lengthOf(bytes)) >>> 0);
+    }
+
+    room() {
+        return this.library.calls.serialpost_serial_room(this.pos) >>> 0;
+    }
+
+    /** The answers to all operations of a run, or undefined where `ops` and `inputs` are no run. */
+    play(ops, inputs) {
+        const { library } = this, count = Math.floor(ops.length / 3);
+        return library.lending(() => {
+            const answers = library.reserve(4 * count);
+            const played = library.calls.serialpost_serial_play(...this.parts, library.copied(ops), lengthOf(ops),
+                library.copied(inputs), lengthOf(inputs), answers, BigInt(count));
+            const words = library.view(answers, 4 * count);
+            return played ? Array.from({ length: count }, (_, i) => words.getUint32(4 * i, true)) : undefined;
+        });
+    }
+
+    save() {
+        const { library } = this;
+        return library.lending(() => {
+            const regs = library.reserve(9), waiting = library.reserve(CAPACITY);
+            const count = library.calls.serialpost_serial_save(...this.parts, regs, waiting);
+            return { regs: library.bytes(regs, 9), waiting: library.bytes(waiting, count) };
+        });
+    }
+
+    /** How often to raise the interrupt and whether a run comes to this state; undefined where it is refused. */
+    restore({ regs, waiting }) {
+        const { library } = this;
+        const answer = library.lending(() => library.calls.serialpost_serial_restore(
+            ...this.parts, library.copied(regs), library.copied(waiting), lengthOf(waiting)) >>> 0);
+        return answer & REFUSED ? undefined : { raises: answer >>> 17, reached: (answer & 1) !== 0 };
+    }
+}
+
+/** `{ form }` of a saved port, or the `{ reason }` why it has none. */
+export function encodePort(library, { regs, waiting }) {
+    return library.lending(() => {
+        const room = 13 + CAPACITY, form = library.reserve(room);
+        const answer = library.calls.serialpost_serial_encode(
+            library.copied(regs), library.copied(waiting), lengthOf(waiting), form, BigInt(room));
+        const reason = reasonOf(answer);
+        return reason ? { reason } : { form: library.bytes(form, answer) };
+    });
+}
+
+/** `{ saved }`, or the `{ reason }` why these bytes are no form of a port. */
+export function decodePort(library, form) {
+    return library.lending(() => {
+        const regs = library.reserve(9), waiting = library.reserve(CAPACITY);
+        const answer = library.calls.serialpost_serial_decode(library.copied(form), lengthOf(form), regs, waiting);
+        const reason = reasonOf(answer);
+        if (reason)
+            return { reason };
+        return { saved: { regs: library.bytes(regs, 9), waiting: library.bytes(waiting, answer) } };
+    });
+}
+
+const CLOCK_SIZE = 24;
+const CLOCK_FORM_SIZE = 26;
+
+/** The clock that lies there: numbers, the offset a BigInt of 64 bits without sign. */
+function clockAt(library, address) {
+    const words = library.view(address, CLOCK_SIZE);
+    const [load, match, mask, raw] = [0, 4, 8, 12].map((place) => words.getUint32(place, true));
+    return { load, match, mask, raw, offset: words.getBigUint64(16, true) };
+}
+
+/** The address of a copy of this clock. */
+function copiedClock(library, { load, match, mask, raw, offset }) {
+    const address = library.reserve(CLOCK_SIZE), words = library.view(address, CLOCK_SIZE);
+    [load, match, mask, raw].forEach((word, i) => words.setUint32(4 * i, word, true));
+    words.setBigUint64(16, offset, true);
+    return address;
+}
+
+/** A PL031. A saved clock is `{ load, match, mask, raw, offset }`. */
+export class Clock {
+    constructor(library) {
+        this.library = library;
+        this.address = library.reserve(CLOCK_SIZE);
+        this.init();
+    }
+
+    init() {
+        this.library.calls.serialpost_clock_init(this.address);
+    }
+
+    /** What the four bytes hold after the read, and whether there is such a register. */
+    read(offset, time, bytes) {
+        const { library } = this;
+        return library.lending(() => {
+            const there = library.copied(bytes);
+            const valid = library.calls.serialpost_clock_read(this.address, offset, time, there) !== 0;
+            return { bytes: library.bytes(there, 4), valid };
+        });
+    }
+
+    write(offset, time, bytes) {
+        const { library } = this;
+        return library.lending(
+            () => library.calls.serialpost_clock_write(this.address, offset, time, library.copied(bytes)) !== 0);
+    }
+
+    save() {
+        const { library } = this;
+        return library.lending(() => {
+            const saved = library.reserve(CLOCK_SIZE);
+            library.calls.serialpost_clock_save(this.address, saved);
+            return clockAt(library, saved);
+        });
+    }
+
+    /** Whether a run comes to this state. */
+    restore(saved) {
+        const { library } = this;
+        return library.lending(
+            () => library.calls.serialpost_clock_restore(this.address, copiedClock(library, saved)) !== 0);
+    }
+}
+
+/** `{ form }` of a saved clock, or the `{ reason }` why it has none. */
+export function encodeClock(library, saved) {
+    return library.lending(() => {
+        const form = library.reserve(CLOCK_FORM_SIZE);
+        const answer = library.calls.serialpost_clock_encode(
+            copiedClock(library, saved), form, BigInt(CLOCK_FORM_SIZE));
+        const reason = reasonOf(answer);
+        return reason ? { reason } : { form: library.bytes(form, answer) };
+    });
+}
+
+/** `{ saved }`, or the `{ reason }` why these bytes are no form of a clock. */
+export function decodeClock(library, form) {
+    return library.lending(() => {
+        const saved = library.reserve(CLOCK_SIZE);
+        const answer = library.calls.serialpost_clock_decode(library.copied(form), lengthOf(form), saved);
+        const reason = reasonOf(answer);
+        return reason ? { reason } : { saved: clockAt(library, saved) };
+    });
+}
+
+/** The reset corner of an i8042. */
+export class ResetController {
+    constructor(library) {
+        this.library = library;
+    }
+
+    read(offset) {
+        return this.library.calls.serialpost_i8042_read(offset) & 0xff;
+    }
+
+    /** Whether to reset the machine. */
+    write(offset, value) {
+        return this.library.calls.serialpost_i8042_write(offset, value) !== 0;
+    }
+}

@@ -1,0 +1,182 @@
+#!/usr/bin/env node
+// uses.mjs [MODULE.wasm]
+//
+// Tests a WebAssembly module, and serialpost.mjs with it: it has the functions of the header and each is called, a run
+// played at once is the calls one after another, forms of states are read and written as recorded, and of an argument
+// of 8 or 16 bits only these count. Exit status: 0 all holds, 1 something does not, 2 there is no such module.
+import { readFileSync } from "node:fs";
+import { fail, loadNamed } from "./module.mjs";
+import { Clock, ResetController, SerialPort, decodeClock, decodePort, encodeClock, encodePort } from "./serialpost.mjs";
+import { bytesOf, clockText, hexOf, portText } from "./text.mjs";
+
+const inRepository = (path) => readFileSync(new URL(`../../${path}`, import.meta.url), "latin1");
+
+function expect(left, right, what) {
+    if (left !== right)
+        fail(`${what}: ${left}, and not ${right}`, 1);
+}
+
+// ---- Random numbers: of so many, and 32 bits of which the lower ones are given
+
+let seed = 1;
+
+function any(many) {
+    seed = (Math.imul(seed, 1664525) + 1013904223) >>> 0;
+    return Math.floor((seed / 2 ** 32) * many);
+}
+
+const anyBytes = (count) => Uint8Array.from({ length: count }, () => any(256));
+const withAnyAbove = (bits, value) => (value | (any(2 ** (32 - bits)) << bits)) >>> 0;
+
+// ---- The functions
+
+/** The header's functions, each with the type of its result. */
+function declared() {
+    const found = inRepository("include/serialpost.h").matchAll(/^(\w+) (serialpost_\w+)\(/gm);
+    return new Map(Array.from(found, ([, result, name]) => [name, result]));
+}
+
+/** Has each call counted in `called`, and its result held to its type: JavaScript sees all 32 bits of a narrow one. */
+function watch(library, results, called) {
+    const most = { bool: 1, uint8_t: 0xff };
+    for (const [name, call] of Object.entries(library.calls))
+        library.calls[name] = (...words) => {
+            const answer = call(...words);
+            called.add(name);
+            const limit = most[results.get(name)];
+            if (limit !== undefined && !(answer >= 0 && answer <= limit))
+                fail(`${name} answers ${answer}, and ${limit} is the most`, 1);
+            return answer;
+        };
+}
+
+const sorted = (names) => [...names].sort().join(" ");
+
+// ---- Runs
+
+/** One operation of a run by the call that is for it, as the header says under serialpost_serial_play. */
+function byItself(port, [kind, second, third], inputs) {
+    switch (kind) {
+        case 0: return port.read(second);
+        case 1: return port.write(second, third);
+        case 2: return port.input(inputs.splice(0, second + 256 * third));
+        default: return port.room();
+    }
+}
+
+function anyOperation() {
+    const kind = any(4);
+    return kind === 2 ? [kind, any(40), any(50) === 0 ? 1 : 0] : [kind, any(9), any(256)];
+}
+
+function runsAreCallsOneAfterAnother(library) {
+    const played = new SerialPort(library), called = new SerialPort(library);
+    for (let run = 0; run < 1000; run++) {
+        const ops = Array.from({ length: any(40) }, anyOperation);
+        const bytes = ops.reduce((sum, [kind, low, high]) => sum + (kind === 2 ? low + 256 * high : 0), 0);
+        const inputs = [...anyBytes(bytes)];
+        expect(played.play([...ops.flat(), 0], inputs), undefined, "a run that is cut short is played");
+        const answers = played.play(ops.flat(), inputs);
+        expect(String(answers), String(ops.map((op) => byItself(called, op, inputs))), "a run's answers");
+        expect(portText(played.save()), portText(called.save()), "the port after a run");
+    }
+}
+
+// ---- Forms of states
+
+const DEVICES = {
+    serial: { decode: decodePort, encode: encodePort, text: portText },
+    clock: { decode: decodeClock, encode: encodeClock, text: clockText },
+};
+
+/** What a line of the recorded forms says, once more; what was read must be written as the same bytes. */
+function lineAgain(library, line) {
+    const [device, digits] = line.split(" ");
+    const { decode, encode, text } = DEVICES[device];
+    const form = bytesOf(digits === "-" ? "" : digits);
+    const { saved, reason } = decode(library, form);
+    if (saved)
+        expect(hexOf(encode(library, saved).form), hexOf(form), "a form that was read, written again");
+    return `${device} ${digits} => ${reason ?? `state ${text(saved)}`}`;
+}
+
+function formsAreAsRecorded(library) {
+    const lines = inRepository("compare/recorded/forms.txt").split("\n").filter((line) => /^[^#]/.test(line));
+    expect(lines.length > 0, true, "there are recorded forms");
+    for (const line of lines)
+        expect(lineAgain(library, line), line, "a recorded form");
+}
+
+function statesWithoutAFormAreRefused(library) {
+    const port = { ...new SerialPort(library).save(), waiting: anyBytes(65) };
+    expect(encodePort(library, port).reason, "too many", "65 bytes wait");
+    const clock = { ...new Clock(library).save(), offset: 2n ** 32n };
+    expect(encodeClock(library, clock).reason, "offset", "a clock is 2^32 ahead");
+}
+
+// ---- States
+
+function devicesAreSavedAndRestored(library) {
+    const port = new SerialPort(library), other = new SerialPort(library);
+    port.write(1, 1);
+    port.input(anyBytes(70));
+    const answer = other.restore(port.save());
+    expect(answer.raises, 1, "a restored port's interrupts");
+    expect(answer.reached, true, "whether a run comes to the port");
+    expect(portText(other.save()), portText(port.save()), "a restored port");
+    expect(other.restore({ ...port.save(), waiting: anyBytes(65) }), undefined, "65 bytes are brought back");
+
+    const clock = new Clock(library), another = new Clock(library);
+    clock.write(8, 1000n, [5, 0, 0, 0]);
+    expect(another.restore(clock.save()), true, "whether a run comes to the clock");
+    expect(hexOf(another.read(0, 1010n, [0, 0, 0, 0]).bytes), "0f000000", "a restored clock's time");
+}
+
+// ---- Narrow arguments
+
+function upperBitsOfBytesDoNotCount(library) {
+    const port = new SerialPort(library), same = new SerialPort(library), controller = new ResetController(library);
+    const wide = (byte) => withAnyAbove(8, byte);
+    for (let round = 0; round < 20000; round++) {
+        const offset = any(4) ? any(9) : any(256), value = any(8) ? any(256) : 0xfe;
+        expect(port.read(wide(offset)), same.read(offset), "a serial port's read");
+        expect(port.write(wide(offset), wide(value)), same.write(offset, value), "a serial port's write");
+        expect(controller.read(wide(offset)), 0, "a reset controller's read");
+        const resets = offset === 4 && value === 0xfe;
+        expect(controller.write(wide(offset), wide(value)), resets, "a reset controller's write");
+    }
+    expect(portText(port.save()), portText(same.save()), "the port after all of these");
+}
+
+function upperBitsOfClockOffsetsDoNotCount(library) {
+    const clock = new Clock(library), same = new Clock(library);
+    for (let round = 0; round < 20000; round++) {
+        const offset = any(4) ? 4 * any(9) : any(2) ? 0xfe0 + any(32) : any(65536), wide = withAnyAbove(16, offset);
+        const time = BigInt(any(2 ** 32)) << BigInt(any(33)), bytes = anyBytes(4);
+        const read = clock.read(wide, time, bytes), sameRead = same.read(offset, time, bytes);
+        expect(hexOf(read.bytes), hexOf(sameRead.bytes), "what a clock's read gives");
+        expect(read.valid, sameRead.valid, "a clock's read");
+        expect(clock.write(wide, time, bytes), same.write(offset, time, bytes), "a clock's write");
+    }
+    expect(clockText(clock.save()), clockText(same.save()), "the clock after all of these");
+}
+
+function main(words) {
+    const library = loadNamed(words), results = declared(), called = new Set();
+    const exported = Object.keys(library.calls);
+    watch(library, results, called);
+    expect(sorted(exported), sorted(results.keys()), "the module's functions");
+    runsAreCallsOneAfterAnother(library);
+    formsAreAsRecorded(library);
+    statesWithoutAFormAreRefused(library);
+    devicesAreSavedAndRestored(library);
+    upperBitsOfBytesDoNotCount(library);
+    upperBitsOfClockOffsetsDoNotCount(library);
+    expect(sorted(called), sorted(exported), "the functions that were called");
+}
+
+try {
+    main(process.argv.slice(2));
+} catch (error) {
+    fail(error.message, 1);
+}
