@@ -10,7 +10,7 @@
  * C cannot check these, so they are yours to keep:
  * - a pointer is not null, not even where the length beside it is 0; it is aligned for its type, and points to as
  *   many elements as are shown here;
- * - an array with a length beside it has that many elements;
+ * - an array with a length beside it has that many elements; a length has 64 bits on every processor;
  * - what one call is lent does not overlap: the state's parts and each array lie apart;
  * - nothing else touches what a call is lent while it runs. Two states may be used at the same time.
  */
@@ -86,7 +86,7 @@ uint32_t serialpost_serial_write(uint8_t regs[9], uint32_t pos[2], uint8_t ring[
 /* `length` bytes come from your side of the line. Answers how many of them, from the first on, are taken; whether
  * the port is full; and how often to raise the interrupt. Refused: any bytes while 64 wait, which answers "full",
  * and any bytes in loopback, which answers 0. Offer what was not taken again. */
-uint32_t serialpost_serial_input(uint8_t regs[9], uint32_t pos[2], uint8_t ring[64], const uint8_t *input, size_t length);
+uint32_t serialpost_serial_input(uint8_t regs[9], uint32_t pos[2], uint8_t ring[64], const uint8_t *input, uint64_t length);
 
 /* Answers how many bytes an input could put into the ring: 0 to 64. Refuses nothing. */
 uint32_t serialpost_serial_room(const uint32_t pos[2]);
@@ -98,8 +98,8 @@ uint32_t serialpost_serial_room(const uint32_t pos[2]);
  *   3 any any         the room
  * Answers true and puts into `answers` the answer of each. Refused, with false: what is no such run (another kind, an
  * operation cut short, bytes of the inputs missing or left over), and a run with more operations than answers. */
-bool serialpost_serial_play(uint8_t regs[9], uint32_t pos[2], uint8_t ring[64], const uint8_t *ops, size_t ops_length,
-                            const uint8_t *inputs, size_t inputs_length, uint32_t *answers, size_t answers_length);
+bool serialpost_serial_play(uint8_t regs[9], uint32_t pos[2], uint8_t ring[64], const uint8_t *ops, uint64_t ops_length,
+                            const uint8_t *inputs, uint64_t inputs_length, uint32_t *answers, uint64_t answers_length);
 
 /* Writes a port down: its registers into `saved`, and the bytes that wait, in their order, into the first of
  * `waiting`, whose others stay. Answers how many wait, 0 to 64. Refuses nothing, and the port stays. */
@@ -112,7 +112,7 @@ uint32_t serialpost_serial_save(const uint8_t regs[9], const uint32_t pos[2], co
  * have been written down by vm-superio before 0.8.2, which comes to such states, or by a port that was brought back so.
  * Refused: more than 64 bytes. */
 uint32_t serialpost_serial_restore(uint8_t regs[9], uint32_t pos[2], uint8_t ring[64], const uint8_t saved[9],
-                                   const uint8_t *waiting, size_t length);
+                                   const uint8_t *waiting, uint64_t length);
 
 /* The form of a written-down port has so many bytes at most. */
 #define SERIALPOST_SERIAL_FORM_MOST 77
@@ -120,12 +120,12 @@ uint32_t serialpost_serial_restore(uint8_t regs[9], uint32_t pos[2], uint8_t rin
 /* Puts a written-down port into bytes, in the form that docs/STATE-FORMAT.md tells. Answers how many bytes the form
  * has, 13 and one for each that waits, and writes it into the first bytes of `form`, whose others stay. Where `form`
  * is shorter nothing is written, and the answer is the same. Refused: more than 64 waiting bytes. */
-uint32_t serialpost_serial_encode(const uint8_t saved[9], const uint8_t *waiting, size_t waiting_length, uint8_t *form,
-                                  size_t form_length);
+uint32_t serialpost_serial_encode(const uint8_t saved[9], const uint8_t *waiting, uint64_t waiting_length, uint8_t *form,
+                                  uint64_t form_length);
 
 /* Reads a form. Answers how many bytes wait, and puts the registers into `saved` and these bytes into the first of
  * `waiting`, whose others stay. Bytes that are no form are refused with a reason, and `saved` and `waiting` stay. */
-uint32_t serialpost_serial_decode(const uint8_t *form, size_t length, uint8_t saved[9], uint8_t waiting[64]);
+uint32_t serialpost_serial_decode(const uint8_t *form, uint64_t length, uint8_t saved[9], uint8_t waiting[64]);
 
 /* The answer to a read or a write, taken apart. */
 #define SERIALPOST_REPLY(answer) ((uint8_t)((answer) & 0xff))
@@ -191,11 +191,11 @@ bool serialpost_clock_restore(struct serialpost_clock *clock, const struct seria
 /* Puts a written-down clock into bytes, in the form that docs/STATE-FORMAT.md tells. Answers 26, as many bytes as the
  * form has, and writes it into the first of `form`, whose others stay. Where `form` is shorter nothing is written, and
  * the answer is the same. Refused, with the reason: an offset outside -2^32 <= offset < 2^32. */
-uint32_t serialpost_clock_encode(const struct serialpost_clock *saved, uint8_t *form, size_t length);
+uint32_t serialpost_clock_encode(const struct serialpost_clock *saved, uint8_t *form, uint64_t length);
 
 /* Reads a form. Answers 0 and puts the clock into `saved`. Bytes that are no form are refused with a reason, and
  * `saved` stays. */
-uint32_t serialpost_clock_decode(const uint8_t *form, size_t length, struct serialpost_clock *saved);
+uint32_t serialpost_clock_decode(const uint8_t *form, uint64_t length, struct serialpost_clock *saved);
 
 /* ---- Reset controller: of an i8042, the command that resets the machine. It has no state. */
 
