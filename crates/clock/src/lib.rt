@@ -146,7 +146,7 @@ fn identity(offset: u16) -> u32
 // ---- The entry points
 
 // Makes the six words a fresh clock, whatever they were.
-pub fn serialpost_clock_init(clock: &mut [u32; 6])
+pub fn init(clock: &mut [u32; 6])
     ensures { λ r. ⌜ clockOf (now (clock .exit)) ≡ fresh ⌝ }
 {
     six(clock);
@@ -160,7 +160,7 @@ pub fn serialpost_clock_init(clock: &mut [u32; 6])
 
 // The guest reads at `offset` while the host's clock says `time`, in seconds. True: the answer is in `bytes`. False: the read
 // was invalid and `bytes` are as they were.
-pub fn serialpost_clock_read(clock: &[u32; 6], offset: u16, time: u64, bytes: &mut [u8; 4]) -> bool
+pub fn read(clock: &[u32; 6], offset: u16, time: u64, bytes: &mut [u8; 4]) -> bool
     ensures { λ r. ⌜ Reads (readOf (clockOf (now (clock .entry))) time offset) (now (bytes .entry)) (now (bytes .exit)) r ⌝ }
 {
     // By itself and first: it is what guests read again and again.
@@ -200,7 +200,7 @@ pub fn serialpost_clock_read(clock: &[u32; 6], offset: u16, time: u64, bytes: &m
 
 // The guest writes `bytes` at `offset` while the host's clock says `time`, in seconds. False: the write was invalid and changed
 // nothing.
-pub fn serialpost_clock_write(clock: &mut [u32; 6], offset: u16, time: u64, bytes: &[u8; 4]) -> bool
+pub fn write(clock: &mut [u32; 6], offset: u16, time: u64, bytes: &[u8; 4]) -> bool
     ensures { λ r. ⌜ Writes (writeOf (clockOf (now (clock .entry))) time offset (valueOf (now (bytes .entry)))) (now (clock .entry)) (now (clock .exit)) r ⌝ }
 {
     six(clock);

@@ -89,7 +89,7 @@ fn write(saved: &[u32; 6], form: &mut [u8])
 }
 
 // Answers how many bytes the form has, and writes it where it has room.
-pub fn serialpost_clock_encode(saved: &[u32; 6], form: &mut [u8]) -> u32
+pub fn encode(saved: &[u32; 6], form: &mut [u8]) -> u32
     ensures { λ r. ⌜ Encodes (now (saved .entry)) (now (form .entry)) (now (form .exit)) r ⌝ }
 {
     six(saved);
@@ -119,7 +119,7 @@ fn read(form: &[u8], saved: &mut [u32; 6])
 }
 
 // Answers 0, or why the form is refused.
-pub fn serialpost_clock_decode(form: &[u8], saved: &mut [u32; 6]) -> u32
+pub fn decode(form: &[u8], saved: &mut [u32; 6]) -> u32
     ensures { λ r. ⌜ Decodes (readForm (now (form .entry))) (now (saved .entry)) (now (saved .exit)) r ⌝ }
 {
     let length = form.len();

@@ -50,14 +50,14 @@ fn showed(value: u32, low: u32, high: u32) -> bool
 // ---- The entry points
 
 // Writes the clock down.
-pub fn serialpost_clock_save(clock: &[u32; 6], saved: &mut [u32; 6])
+pub fn save(clock: &[u32; 6], saved: &mut [u32; 6])
     ensures { λ r. ⌜ now (saved .exit) ≡ now (clock .entry) ⌝ }
 {
     copy(clock, saved);
 }
 
 // Brings a clock back. True: a run from a fresh clock could have come to it.
-pub fn serialpost_clock_restore(clock: &mut [u32; 6], saved: &[u32; 6]) -> bool
+pub fn restore(clock: &mut [u32; 6], saved: &[u32; 6]) -> bool
     ensures { λ r. ⌜ Restores (now (saved .entry)) (now (clock .exit)) r ⌝ }
 {
     six_words(saved);

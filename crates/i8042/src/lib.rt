@@ -10,14 +10,14 @@ const COMMAND_PORT: u8 = 4;
 const PULSE_RESET: u8 = 0xfe;
 
 // What the guest reads at `offset`.
-pub fn serialpost_i8042_read(offset: u8) -> u8
+pub fn read(offset: u8) -> u8
     ensures { λ r. ⌜ r ≡ readOf offset ⌝ }
 {
     0
 }
 
 // Whether the guest asks for a reset of the machine by writing `value` at `offset`.
-pub fn serialpost_i8042_write(offset: u8, value: u8) -> bool
+pub fn write(offset: u8, value: u8) -> bool
     ensures { λ r. ⌜ r ≡ writeResets offset value ⌝ }
 {
     if offset == COMMAND_PORT {

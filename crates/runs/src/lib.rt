@@ -60,23 +60,23 @@ fn play_one(
 {
     match kind {
         0 => {
-            return serial::serialpost_serial_read(regs, pos, ring, a);
+            return serial::read(regs, pos, ring, a);
         }
         1 => {
-            return serial::serialpost_serial_write(regs, pos, ring, a, b);
+            return serial::write(regs, pos, ring, a, b);
         }
         2 => {
-            return serial::serialpost_serial_input(regs, pos, ring, bytes);
+            return serial::input(regs, pos, ring, bytes);
         }
         _ => {
-            return serial::serialpost_serial_room(pos);
+            return serial::room(pos);
         }
     }
 }
 
 // Plays a whole run on the port and writes one word of answer for each of its operations: true. What
 // is no run, or asks more than there is room to answer, is refused and changes nothing: false.
-pub fn serialpost_serial_play(
+pub fn play(
     regs: &mut [u8; 9],
     pos: &mut [u32; 2],
     ring: &mut [u8; 64],

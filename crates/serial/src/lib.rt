@@ -25,7 +25,7 @@ ghost use Rattle.serial.specs.Port.{readOf, writeOf, inputOf};
 ghost use Rattle.serial.specs.Calls.{Reads, Writes, Takes, Begins, HasRoom};
 
 // A fresh port; its storage may hold anything.
-pub fn serialpost_serial_init(regs: &mut [u8; 9], pos: &mut [u32; 2])
+pub fn init(regs: &mut [u8; 9], pos: &mut [u32; 2])
     ensures { λ r. ⌜ Begins (now (regs .exit)) (now (pos .exit)) ⌝ }
 {
     memory::nine(regs);
@@ -62,12 +62,7 @@ fn is_status_or_control(offset: u8) -> bool
 }
 
 // The guest reads at `offset`: the reply, and 512 for each interrupt to raise.
-pub fn serialpost_serial_read(
-    regs: &mut [u8; 9],
-    pos: &mut [u32; 2],
-    ring: &[u8; 64],
-    offset: u8,
-) -> u32
+pub fn read(regs: &mut [u8; 9], pos: &mut [u32; 2], ring: &[u8; 64], offset: u8) -> u32
     ensures { λ r. ⌜ Reads (λ p. readOf p offset) (now (regs .entry)) (now (pos .entry)) (now (ring .entry)) (now (regs .exit)) (now (pos .exit)) r ⌝ }
 {
     if offset == 0 {
@@ -106,7 +101,7 @@ pub fn serialpost_serial_read(
 
 // The guest writes `value` at `offset`: the byte to send and 256, where there is one, and 512 for
 // each interrupt to raise.
-pub fn serialpost_serial_write(
+pub fn write(
     regs: &mut [u8; 9],
     pos: &mut [u32; 2],
     ring: &mut [u8; 64],
@@ -154,12 +149,7 @@ pub fn serialpost_serial_write(
 
 // Bytes from the host's side of the line: how many were taken, 0x1_0000 for "full", and 0x2_0000
 // for each interrupt to raise.
-pub fn serialpost_serial_input(
-    regs: &mut [u8; 9],
-    pos: &mut [u32; 2],
-    ring: &mut [u8; 64],
-    input: &[u8],
-) -> u32
+pub fn input(regs: &mut [u8; 9], pos: &mut [u32; 2], ring: &mut [u8; 64], input: &[u8]) -> u32
     ensures { λ r. ⌜ Takes (λ p. inputOf p (now (input .entry))) (now (regs .entry)) (now (pos .entry)) (now (ring .entry)) (now (regs .exit)) (now (pos .exit)) (now (ring .exit)) r ⌝ }
 {
     if modem::is_loop(regs[MCR]) {
@@ -182,7 +172,7 @@ pub fn serialpost_serial_input(
 }
 
 // How many more bytes the port can take.
-pub fn serialpost_serial_room(pos: &[u32; 2]) -> u32
+pub fn room(pos: &[u32; 2]) -> u32
     ensures { λ r. ⌜ HasRoom (now (pos .entry)) r ⌝ }
 {
     ring::CAPACITY - ring::count(pos)

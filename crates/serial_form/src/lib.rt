@@ -92,7 +92,7 @@ fn write(saved: &[u8; 9], waiting: &[u8], form: &mut [u8])
 }
 
 // Answers how many bytes the form has, and writes it if there is room for them. More bytes than may wait are refused.
-pub fn serialpost_serial_encode(saved: &[u8; 9], waiting: &[u8], form: &mut [u8]) -> u32
+pub fn encode(saved: &[u8; 9], waiting: &[u8], form: &mut [u8]) -> u32
     ensures { λ r. ⌜ Encodes (now (saved .entry)) (now (waiting .entry)) (now (form .entry)) (now (form .exit)) r ⌝ }
 {
     nine(saved);
@@ -141,7 +141,7 @@ fn decode_version_2(form: &[u8], saved: &mut [u8; 9], waiting: &mut [u8; 64]) ->
 }
 
 // Answers how many bytes wait, or why the form is refused; then nothing is written.
-pub fn serialpost_serial_decode(form: &[u8], saved: &mut [u8; 9], waiting: &mut [u8; 64]) -> u32
+pub fn decode(form: &[u8], saved: &mut [u8; 9], waiting: &mut [u8; 64]) -> u32
     ensures { λ r. ⌜ Decodes (readForm (now (form .entry))) (now (saved .entry)) (now (waiting .entry)) (now (saved .exit)) (now (waiting .exit)) r ⌝ }
 {
     if form.len() < REGISTERS {

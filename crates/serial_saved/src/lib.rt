@@ -42,7 +42,7 @@ fn unroll(ring: &[u8; 64], start: u32, n: u32, waiting: &mut [u8; 64])
 }
 
 // The port as it stands: its registers, and the bytes that wait. The answer: how many bytes wait.
-pub fn serialpost_serial_save(
+pub fn save(
     regs: &[u8; 9],
     pos: &[u32; 2],
     ring: &[u8; 64],
@@ -83,7 +83,7 @@ fn raises(saved: &[u8; 9]) -> u32
 // What was written down becomes the port. The answer: 1 if a run from a fresh port can have come to
 // it, and 0x2_0000 for each interrupt to raise. More bytes than the port has room for are refused,
 // with 0x1_0000.
-pub fn serialpost_serial_restore(
+pub fn restore(
     regs: &mut [u8; 9],
     pos: &mut [u32; 2],
     ring: &mut [u8; 64],

@@ -11,7 +11,7 @@ ghost use Rattle.clock_form.specs.Calls.{Encodes, Decodes};
 pub extern "C" fn serialpost_clock_init(clock: &mut [u32; 6])
     ensures { λ r. ⌜ clockOf (now (clock .exit)) ≡ fresh ⌝ }
 {
-    clock::serialpost_clock_init(clock);
+    clock::init(clock);
 }
 
 #[no_mangle]
@@ -23,7 +23,7 @@ pub extern "C" fn serialpost_clock_read(
 ) -> bool
     ensures { λ r. ⌜ Reads (readOf (clockOf (now (clock .entry))) time offset) (now (bytes .entry)) (now (bytes .exit)) r ⌝ }
 {
-    clock::serialpost_clock_read(clock, offset, time, bytes)
+    clock::read(clock, offset, time, bytes)
 }
 
 #[no_mangle]
@@ -35,33 +35,33 @@ pub extern "C" fn serialpost_clock_write(
 ) -> bool
     ensures { λ r. ⌜ Writes (writeOf (clockOf (now (clock .entry))) time offset (valueOf (now (bytes .entry)))) (now (clock .entry)) (now (clock .exit)) r ⌝ }
 {
-    clock::serialpost_clock_write(clock, offset, time, bytes)
+    clock::write(clock, offset, time, bytes)
 }
 
 #[no_mangle]
 pub extern "C" fn serialpost_clock_save(clock: &[u32; 6], saved: &mut [u32; 6])
     ensures { λ r. ⌜ now (saved .exit) ≡ now (clock .entry) ⌝ }
 {
-    clock_saved::serialpost_clock_save(clock, saved);
+    clock_saved::save(clock, saved);
 }
 
 #[no_mangle]
 pub extern "C" fn serialpost_clock_restore(clock: &mut [u32; 6], saved: &[u32; 6]) -> bool
     ensures { λ r. ⌜ Restores (now (saved .entry)) (now (clock .exit)) r ⌝ }
 {
-    clock_saved::serialpost_clock_restore(clock, saved)
+    clock_saved::restore(clock, saved)
 }
 
 #[no_mangle]
 pub extern "C" fn serialpost_clock_encode(saved: &[u32; 6], form: &mut [u8]) -> u32
     ensures { λ r. ⌜ Encodes (now (saved .entry)) (now (form .entry)) (now (form .exit)) r ⌝ }
 {
-    clock_form::serialpost_clock_encode(saved, form)
+    clock_form::encode(saved, form)
 }
 
 #[no_mangle]
 pub extern "C" fn serialpost_clock_decode(form: &[u8], saved: &mut [u32; 6]) -> u32
     ensures { λ r. ⌜ Decodes (readForm (now (form .entry))) (now (saved .entry)) (now (saved .exit)) r ⌝ }
 {
-    clock_form::serialpost_clock_decode(form, saved)
+    clock_form::decode(form, saved)
 }

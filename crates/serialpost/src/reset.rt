@@ -6,12 +6,12 @@ ghost use Rattle.i8042.specs.I8042.{readOf, writeResets};
 pub extern "C" fn serialpost_i8042_read(offset: u8) -> u8
     ensures { λ r. ⌜ r ≡ readOf offset ⌝ }
 {
-    i8042::serialpost_i8042_read(offset)
+    i8042::read(offset)
 }
 
 #[no_mangle]
 pub extern "C" fn serialpost_i8042_write(offset: u8, value: u8) -> bool
     ensures { λ r. ⌜ r ≡ writeResets offset value ⌝ }
 {
-    i8042::serialpost_i8042_write(offset, value)
+    i8042::write(offset, value)
 }

@@ -10,7 +10,7 @@ ghost use Rattle.serial_form.specs.Calls.{Encodes, Decodes};
 pub extern "C" fn serialpost_serial_init(regs: &mut [u8; 9], pos: &mut [u32; 2])
     ensures { λ r. ⌜ Begins (now (regs .exit)) (now (pos .exit)) ⌝ }
 {
-    serial::serialpost_serial_init(regs, pos);
+    serial::init(regs, pos);
 }
 
 #[no_mangle]
@@ -22,7 +22,7 @@ pub extern "C" fn serialpost_serial_read(
 ) -> u32
     ensures { λ r. ⌜ Reads (λ p. readOf p offset) (now (regs .entry)) (now (pos .entry)) (now (ring .entry)) (now (regs .exit)) (now (pos .exit)) r ⌝ }
 {
-    serial::serialpost_serial_read(regs, pos, ring, offset)
+    serial::read(regs, pos, ring, offset)
 }
 
 #[no_mangle]
@@ -35,7 +35,7 @@ pub extern "C" fn serialpost_serial_write(
 ) -> u32
     ensures { λ r. ⌜ Writes (λ p. writeOf p offset value) (now (regs .entry)) (now (pos .entry)) (now (ring .entry)) (now (regs .exit)) (now (pos .exit)) (now (ring .exit)) r ⌝ }
 {
-    serial::serialpost_serial_write(regs, pos, ring, offset, value)
+    serial::write(regs, pos, ring, offset, value)
 }
 
 #[no_mangle]
@@ -47,14 +47,14 @@ pub extern "C" fn serialpost_serial_input(
 ) -> u32
     ensures { λ r. ⌜ Takes (λ p. inputOf p (now (input .entry))) (now (regs .entry)) (now (pos .entry)) (now (ring .entry)) (now (regs .exit)) (now (pos .exit)) (now (ring .exit)) r ⌝ }
 {
-    serial::serialpost_serial_input(regs, pos, ring, input)
+    serial::input(regs, pos, ring, input)
 }
 
 #[no_mangle]
 pub extern "C" fn serialpost_serial_room(pos: &[u32; 2]) -> u32
     ensures { λ r. ⌜ HasRoom (now (pos .entry)) r ⌝ }
 {
-    serial::serialpost_serial_room(pos)
+    serial::room(pos)
 }
 
 #[no_mangle]
@@ -68,7 +68,7 @@ pub extern "C" fn serialpost_serial_play(
 ) -> bool
     ensures { λ r. ⌜ Plays (now (regs .entry)) (now (pos .entry)) (now (ring .entry)) (now (ops .entry)) (now (inputs .entry)) (now (answers .entry)) (now (regs .exit)) (now (pos .exit)) (now (ring .exit)) (now (answers .exit)) r ⌝ }
 {
-    runs::serialpost_serial_play(regs, pos, ring, ops, inputs, answers)
+    runs::play(regs, pos, ring, ops, inputs, answers)
 }
 
 #[no_mangle]
@@ -81,7 +81,7 @@ pub extern "C" fn serialpost_serial_save(
 ) -> u32
     ensures { λ r. ⌜ Saves (now (regs .entry)) (now (pos .entry)) (now (ring .entry)) (now (waiting .entry)) (now (saved .exit)) (now (waiting .exit)) r ⌝ }
 {
-    serial_saved::serialpost_serial_save(regs, pos, ring, saved, waiting)
+    serial_saved::save(regs, pos, ring, saved, waiting)
 }
 
 #[no_mangle]
@@ -94,14 +94,14 @@ pub extern "C" fn serialpost_serial_restore(
 ) -> u32
     ensures { λ r. ⌜ Restores (now (regs .entry)) (now (pos .entry)) (now (ring .entry)) (now (saved .entry)) (now (waiting .entry)) (now (regs .exit)) (now (pos .exit)) (now (ring .exit)) r ⌝ }
 {
-    serial_saved::serialpost_serial_restore(regs, pos, ring, saved, waiting)
+    serial_saved::restore(regs, pos, ring, saved, waiting)
 }
 
 #[no_mangle]
 pub extern "C" fn serialpost_serial_encode(saved: &[u8; 9], waiting: &[u8], form: &mut [u8]) -> u32
     ensures { λ r. ⌜ Encodes (now (saved .entry)) (now (waiting .entry)) (now (form .entry)) (now (form .exit)) r ⌝ }
 {
-    serial_form::serialpost_serial_encode(saved, waiting, form)
+    serial_form::encode(saved, waiting, form)
 }
 
 #[no_mangle]
@@ -112,5 +112,5 @@ pub extern "C" fn serialpost_serial_decode(
 ) -> u32
     ensures { λ r. ⌜ Decodes (readForm (now (form .entry))) (now (saved .entry)) (now (waiting .entry)) (now (saved .exit)) (now (waiting .exit)) r ⌝ }
 {
-    serial_form::serialpost_serial_decode(form, saved, waiting)
+    serial_form::decode(form, saved, waiting)
 }

@@ -6,51 +6,51 @@ use Rattle.runs.proofs.Words.{does-read, does-write, does-input, does-r
 use Rattle.runs.proofs.play_one.Statement.{statement}
 use Rattle.runs.proofs.play_one.Tie as tie
 
-serialpost-serial-read-requires : tie.Need-serialpost-serial-read-requires
-serialpost-serial-read-requires c κs = search needs
+read-requires : tie.Need-read-requires
+read-requires c κs = search needs
 
 returns : tie.Need-returns
 returns c =
     let g = c .before .before .before .before .before .before .args in
-    let e = c .serialpost-serial-read .ensures in
+    let e = c .read .ensures in
     does-read _ (g .a) (g .b) (g .bytes .now) _ _ (g .kind) (c .before .before .before .before .match .keys1) (e .holds) (e .answer)
 
-serialpost-serial-write-requires : tie.Need-serialpost-serial-write-requires
-serialpost-serial-write-requires c κs = search needs
+write-requires : tie.Need-write-requires
+write-requires c κs = search needs
 
 returns-2 : tie.Need-returns-2
 returns-2 c =
     let g = c .before .before .before .before .before .before .args in
-    let e = c .serialpost-serial-write .ensures in
+    let e = c .write .ensures in
     does-write _ (g .a) (g .b) (g .bytes .now) _ _ (g .kind) (c .before .before .before .before .match .keys2) (e .holds) (e .answer)
 
-serialpost-serial-input-requires : tie.Need-serialpost-serial-input-requires
-serialpost-serial-input-requires c κs = search needs
+input-requires : tie.Need-input-requires
+input-requires c κs = search needs
 
 returns-3 : tie.Need-returns-3
 returns-3 c =
     let g = c .before .before .before .before .before .before .args in
-    let e = c .serialpost-serial-input .ensures in
+    let e = c .input .ensures in
     does-input _ (g .a) (g .b) (g .bytes .now) _ _ (g .kind) (c .before .before .before .before .match .keys3) (e .holds) (e .answer)
 
-serialpost-serial-room-requires : tie.Need-serialpost-serial-room-requires
-serialpost-serial-room-requires c κs = search needs
+room-requires : tie.Need-room-requires
+room-requires c κs = search needs
 
 returns-4 : tie.Need-returns-4
 returns-4 c =
     let g = c .before .before .before .before .args in
     let m = c .before .before .match .rest in
-    does-room _ (g .a) (g .b) (g .bytes .now) _ _ (g .kind) (m .0 .0 .1) (m .0 .1) (m .1) refl (c .serialpost-serial-room .ensures _ _)
+    does-room _ (g .a) (g .b) (g .bytes .now) _ _ (g .kind) (m .0 .0 .1) (m .0 .1) (m .1) refl (c .room .ensures _ _)
 
 pub play-one-spec : {M : Type 1} → statement M
 play-one-spec =
     tie.close
     (tie.spec
-    serialpost-serial-read-requires
+    read-requires
     returns
-    serialpost-serial-write-requires
+    write-requires
     returns-2
-    serialpost-serial-input-requires
+    input-requires
     returns-3
-    serialpost-serial-room-requires
+    room-requires
     returns-4)
