@@ -1,12 +1,12 @@
 -- The clock's answers, one law for each place where the code answers.
 -- Assumes nothing.
 use Prim.Native.Nat.{ℕ, _+_, _≤_}
-use mathlib.Core.Path.{_≡_, refl, sym, ap, _∙_}
-use mathlib.Core.Bool.{Bool, true, false}
-use mathlib.Core.List.{List, [], _∷_, _++_}
+use mathlib.Core.Path.{_≡_, refl, ap}
+use mathlib.Core.Bool.{Bool, true, false, cond}
+use mathlib.Core.List.{List, [], _∷_}
 use lib.ListN.{drop}
 use Rattle.common.specs.Bytes.{valueOf}
-use Rattle.clock.specs.Registers.{Reply, Change, readOf, writeOf}
+use Rattle.clock.specs.Registers.{readOf, writeOf}
 use Rattle.clock.specs.Layout.{clockOf, Reads, Writes}
 use Rattle.clock_saved.specs.Saved.{Restores}
 use Rattle.words.specs.Decimal.{numberOf}
@@ -15,20 +15,26 @@ use Rattle.words.specs.Put.{Puts}
 use Rattle.words.specs.Text.{text}
 use Rattle.words.specs.declared.decimal.Number.{Number}
 use Rattle.words.specs.declared.decimal.Number.the-variants.{Is, Bad}
-use Rattle.words.proofs.Putting.{both}
+use Rattle.clock_lines.specs.declared.Clocks.{Clocks}
+use Rattle.clock_lines.specs.declared.Said.{Said}
 use Rattle.clock_lines.specs.Answers.{
-  Lent,
   Answers,
-  Wrote,
-  Brought,
   asks,
   asksSaved,
+  asksKept,
+  asksTime,
+  read,
+  write,
+  showState,
+  save,
+  restore,
+  nothing,
   offsetIn,
   bytesIn,
   wordsIn,
-  fourDigits,
-  readSays,
-  writeSays,
+  readSaid,
+  writeSaid,
+  restoreSays,
   stateSays,
 }
 
@@ -39,82 +45,100 @@ six p q r s t u = rw (p, q, r, s, t, u) refl
 
 -- ---- One access
 
-module _ {out o₁ o₂ out′ : List ℕ} {at a b r : ℕ} {reply : Reply} {before after : List ℕ} {valid : Bool} where
-  pub reads-valid : Reads reply before after valid → valid ≡ true → Puts out at (text "r ") o₁ a → Puts o₁ a (fourDigits after) o₂ b → Puts o₂ b (text " ok\n") out′ r → Puts out at (readSays reply before) out′ r
-  reads-valid c v p q s = rw (← c .bytes, sym (c .validity) ∙ v) (both (both p q) s)
+-- The clocks, with the clock in other memory.
+abbrev holding : Clocks → List ℕ → Clocks
+holding clocks clock = record { clock = clock; time = clocks .time; kept = clocks .kept; keeps = clocks .keeps }
 
-  pub reads-invalid : Reads reply before after valid → valid ≡ false → Puts out at (text "r ") o₁ a → Puts o₁ a (fourDigits after) o₂ b → Puts o₂ b (text " invalid\n") out′ r → Puts out at (readSays reply before) out′ r
-  reads-invalid c v p q s = rw (← c .bytes, sym (c .validity) ∙ v) (both (both p q) s)
+module _ (clocks : Clocks) {out out′ : List ℕ} {at r : ℕ} where
+  pub reads : (offset : ℕ) {before after : List ℕ} {valid : Bool} → Reads (readOf (clockOf (clocks .clock)) (clocks .time) offset) before after valid
+      → Puts out at (readSaid after valid) out′ r → r ≤ at + 4096 → Answers (read offset before) clocks out at (record { clocks = clocks; put = r }) out′
+  reads offset c p h =
+      record { reached = false; tells = tt; said = rw (← c .bytes, ← c .validity) p; clock = refl; time = refl; kept = refl; keeps = refl; short = h }
 
-module _ {out out′ : List ℕ} {at r : ℕ} {change : Change} {words words′ : List ℕ} {valid : Bool} where
-  pub writes-valid : Writes change words words′ valid → valid ≡ true → Puts out at (text "w ok\n") out′ r → Wrote change words words′ out at out′ r
-  writes-valid c v p = record { said = rw (sym (c .validity) ∙ v) p; clock = c .clock }
+  pub writes : (offset : ℕ) (bytes : List ℕ) {clock′ : List ℕ} {valid : Bool}
+      → Writes (writeOf (clockOf (clocks .clock)) (clocks .time) offset (valueOf bytes)) (clocks .clock) clock′ valid
+      → Puts out at (writeSaid valid) out′ r → r ≤ at + 4096 → Answers (write offset bytes) clocks out at (record { clocks = holding clocks clock′; put = r }) out′
+  writes offset bytes c p h =
+      record { reached = false; tells = tt; said = rw (← c .validity) p; clock = c .clock; time = refl; kept = refl; keeps = refl; short = h }
 
-  pub writes-invalid : Writes change words words′ valid → valid ≡ false → Puts out at (text "w invalid\n") out′ r → Wrote change words words′ out at out′ r
-  writes-invalid c v p = record { said = rw (sym (c .validity) ∙ v) p; clock = c .clock }
+  pub restores : {saved clock′ : List ℕ} {reached : Bool} → Restores saved clock′ reached → Puts out at (restoreSays reached) out′ r → r ≤ at + 4096
+      → Answers (restore saved) clocks out at (record { clocks = holding clocks clock′; put = r }) out′
+  restores {reached = reached} c p h =
+      record { reached = reached; tells = c .told; said = p; clock = ap clockOf (c .words); time = refl; kept = refl; keeps = refl; short = h }
 
-module _ {out out′ : List ℕ} {at r : ℕ} {saved words′ : List ℕ} {reached : Bool} where
-  pub restores-reached : Restores saved words′ reached → reached ≡ true → Puts out at (text "restore reached\n") out′ r → Brought saved words′ out at out′ r
-  restores-reached c v p = record { reached = reached; tells = c .told; said = rw v p; words = c .words }
+  pub saves : {kept′ : List ℕ} → kept′ ≡ clocks .clock → Puts out at (stateSays (text "save") kept′) out′ r → r ≤ at + 4096
+      → Answers save clocks out at (record { clocks = record { clock = clocks .clock; time = clocks .time; kept = kept′; keeps = true }; put = r }) out′
+  saves k p h = record { reached = false; tells = tt; said = rw (← k) p; clock = refl; time = refl; kept = k; keeps = refl; short = h }
 
-  pub restores-unreached : Restores saved words′ reached → reached ≡ false → Puts out at (text "restore unreached\n") out′ r → Brought saved words′ out at out′ r
-  restores-unreached c v p = record { reached = reached; tells = c .told; said = rw v p; words = c .words }
+  pub state-shown : Puts out at (stateSays (text "state") (clocks .clock)) out′ r → r ≤ at + 4096 → Answers showState clocks out at (record { clocks = clocks; put = r }) out′
+  state-shown p h = record { reached = false; tells = tt; said = p; clock = refl; time = refl; kept = refl; keeps = refl; short = h }
+
+  pub nothing-asked : Puts out at (text "?\n") out′ r → r ≤ at + 4096 → Answers nothing clocks out at (record { clocks = clocks; put = r }) out′
+  nothing-asked p h = record { reached = false; tells = tt; said = p; clock = refl; time = refl; kept = refl; keeps = refl; short = h }
+
+  pub time-set : {n : Number} {t : ℕ} → Is t ≡ n → Puts out at (text "now\n") out′ r → r ≤ at + 4096
+      → Answers (asksTime n) clocks out at (record { clocks = record { clock = clocks .clock; time = t; kept = clocks .kept; keeps = clocks .keeps }; put = r }) out′
+  time-set e p h = rw (← e) (record { reached = false; tells = tt; said = p; clock = refl; time = refl; kept = refl; keeps = refl; short = h })
+
+  pub no-time : {n : Number} → Bad ≡ n → Puts out at (text "?\n") out′ r → r ≤ at + 4096 → Answers (asksTime n) clocks out at (record { clocks = clocks; put = r }) out′
+  no-time e p h = rw (← e) (nothing-asked p h)
+
+-- ---- The clock that was saved last
+
+module _ (saved : List ℕ) {clocks : Clocks} {out out′ : List ℕ} {at : ℕ} {r : Said} {keeps : Bool} where
+  pub some-kept : keeps ≡ true → Answers (restore saved) clocks out at r out′ → Answers (cond keeps (restore saved) nothing) clocks out at r out′
+  some-kept k a = rw k a
+
+  pub none-kept : keeps ≡ false → Answers nothing clocks out at r out′ → Answers (cond keeps (restore saved) nothing) clocks out at r out′
+  none-kept k a = rw k a
 
 -- ---- One line
 
-module _ (line : List ℕ) (lent : Lent) {out out′ : List ℕ} {at r : ℕ} {offset : ℕ} {bytes : List ℕ} where
-  pub by-read : fitsOf (text "r OOOO BBBBBBBB") line ≡ true → offset ≡ offsetIn line → bytes ≡ bytesIn line → Puts out at (readSays (readOf (clockOf (lent .clock)) (lent .time) offset) bytes) out′ r → r ≤ at + 4096 → Answers (asks lent line) lent out at lent out′ r
+module _ (line : List ℕ) {clocks : Clocks} {out out′ : List ℕ} {at : ℕ} {r : Said} where
+  pub by-read : {offset : ℕ} {bytes : List ℕ} → fitsOf (text "r OOOO BBBBBBBB") line ≡ true → offset ≡ offsetIn line → bytes ≡ bytesIn line
+      → Answers (read offset bytes) clocks out at r out′ → Answers (asks clocks line) clocks out at r out′
   unfolding asks
-  by-read f o b p h = rw f (record { reached = false; tells = tt; said = rw (← o, ← b) p; clock = refl; time = refl; kept = refl; keeps = refl; short = h })
+  by-read f o b a = rw (f, ← o, ← b) a
 
-  pub by-write : {words′ : List ℕ} → fitsOf (text "r OOOO BBBBBBBB") line ≡ false → fitsOf (text "w OOOO BBBBBBBB") line ≡ true → offset ≡ offsetIn line → bytes ≡ bytesIn line → Wrote (writeOf (clockOf (lent .clock)) (lent .time) offset (valueOf bytes)) (lent .clock) words′ out at out′ r → r ≤ at + 4096 → Answers (asks lent line) lent out at (record { clock = words′; time = lent .time; kept = lent .kept; keeps = lent .keeps }) out′ r
-  unfolding asks
-  by-write n f o b p h =
-      rw (n, f)
-      (record { reached = false; tells = tt; said = rw (← o, ← b) (p .said); clock = rw (← o, ← b) (p .clock); time = refl; kept = refl; keeps = refl; short = h })
+  module _ (no-read : fitsOf (text "r OOOO BBBBBBBB") line ≡ false) where
+    pub by-write : {offset : ℕ} {bytes : List ℕ} → fitsOf (text "w OOOO BBBBBBBB") line ≡ true → offset ≡ offsetIn line → bytes ≡ bytesIn line
+        → Answers (write offset bytes) clocks out at r out′ → Answers (asks clocks line) clocks out at r out′
+    unfolding asks
+    by-write f o b a = rw (no-read, f, ← o, ← b) a
 
-module _ (line : List ℕ) (lent : Lent) {out out′ : List ℕ} {at r : ℕ} (no-read : fitsOf (text "r OOOO BBBBBBBB") line ≡ false) (no-write : fitsOf (text "w OOOO BBBBBBBB") line ≡ false) where
-  pub by-time : (t : ℕ) → beginsLike (text "now ") line ≡ true → Is t ≡ numberOf (drop 4 line) → Puts out at (text "now\n") out′ r → r ≤ at + 4096 → Answers (asks lent line) lent out at (record { clock = lent .clock; time = t; kept = lent .kept; keeps = lent .keeps }) out′ r
-  unfolding asks
-  by-time t f e p h = rw (no-read, no-write, f, ← e) (record { reached = false; tells = tt; said = p; clock = refl; time = refl; kept = refl; keeps = refl; short = h })
+    module _ (no-write : fitsOf (text "w OOOO BBBBBBBB") line ≡ false) where
+      pub by-time : beginsLike (text "now ") line ≡ true → Answers (asksTime (numberOf (drop 4 line))) clocks out at r out′ → Answers (asks clocks line) clocks out at r out′
+      unfolding asks
+      by-time f a = rw (no-read, no-write, f) a
 
-  pub by-no-time : beginsLike (text "now ") line ≡ true → Bad ≡ numberOf (drop 4 line) → Puts out at (text "?\n") out′ r → r ≤ at + 4096 → Answers (asks lent line) lent out at lent out′ r
-  unfolding asks
-  by-no-time f e p h = rw (no-read, no-write, f, ← e) (record { reached = false; tells = tt; said = p; clock = refl; time = refl; kept = refl; keeps = refl; short = h })
+      module _ (no-time : beginsLike (text "now ") line ≡ false) where
+        pub by-state : fitsOf (text "state") line ≡ true → Answers showState clocks out at r out′ → Answers (asks clocks line) clocks out at r out′
+        unfolding asks
+        by-state f a = rw (no-read, no-write, no-time, f) a
 
-  pub by-state : beginsLike (text "now ") line ≡ false → fitsOf (text "state") line ≡ true → Puts out at (stateSays (text "state") (lent .clock)) out′ r → r ≤ at + 4096 → Answers (asks lent line) lent out at lent out′ r
-  unfolding asks
-  by-state n f p h = rw (no-read, no-write, n, f) (record { reached = false; tells = tt; said = p; clock = refl; time = refl; kept = refl; keeps = refl; short = h })
-
-  pub by-saved : {lent′ : Lent} → beginsLike (text "now ") line ≡ false → fitsOf (text "state") line ≡ false → Answers (asksSaved lent line) lent out at lent′ out′ r → Answers (asks lent line) lent out at lent′ out′ r
-  unfolding asks
-  by-saved n f a = rw (no-read, no-write, n, f) a
+        pub by-saved : fitsOf (text "state") line ≡ false → Answers (asksSaved clocks line) clocks out at r out′ → Answers (asks clocks line) clocks out at r out′
+        unfolding asks
+        by-saved f a = rw (no-read, no-write, no-time, f) a
 
 -- ---- One line about saved states
 
-module _ (line : List ℕ) (lent : Lent) {out out′ : List ℕ} {at r : ℕ} where
-  pub by-save : {kept′ : List ℕ} → fitsOf (text "save") line ≡ true → kept′ ≡ lent .clock → Puts out at (stateSays (text "save") kept′) out′ r → r ≤ at + 4096 → Answers (asksSaved lent line) lent out at (record { clock = lent .clock; time = lent .time; kept = kept′; keeps = true }) out′ r
+module _ (line : List ℕ) {clocks : Clocks} {out out′ : List ℕ} {at : ℕ} {r : Said} where
+  pub by-save : fitsOf (text "save") line ≡ true → Answers save clocks out at r out′ → Answers (asksSaved clocks line) clocks out at r out′
   unfolding asksSaved
-  by-save f k p h = rw f (record { reached = false; tells = tt; said = rw (← k) p; clock = refl; time = refl; kept = k; keeps = refl; short = h })
+  by-save f a = rw f a
 
-module _ (line : List ℕ) (lent : Lent) {out out′ : List ℕ} {at r : ℕ} (no-save : fitsOf (text "save") line ≡ false) where
-  pub by-kept : {words′ : List ℕ} → fitsOf (text "restore") line ≡ true → lent .keeps ≡ true → Brought (lent .kept) words′ out at out′ r → r ≤ at + 4096 → Answers (asksSaved lent line) lent out at (record { clock = words′; time = lent .time; kept = lent .kept; keeps = lent .keeps }) out′ r
-  unfolding asksSaved
-  by-kept f k b h =
-      rw (no-save, f, k)
-      (record { reached = b .reached; tells = b .tells; said = b .said; clock = ap clockOf (b .words); time = refl; kept = refl; keeps = refl; short = h })
+  module _ (no-save : fitsOf (text "save") line ≡ false) where
+    pub by-kept : fitsOf (text "restore") line ≡ true → Answers (asksKept clocks) clocks out at r out′ → Answers (asksSaved clocks line) clocks out at r out′
+    unfolding asksSaved
+    by-kept f a = rw (no-save, f) a
 
-  pub by-none-kept : fitsOf (text "restore") line ≡ true → lent .keeps ≡ false → Puts out at (text "?\n") out′ r → r ≤ at + 4096 → Answers (asksSaved lent line) lent out at lent out′ r
-  unfolding asksSaved
-  by-none-kept f k p h = rw (no-save, f, k) (record { reached = false; tells = tt; said = p; clock = refl; time = refl; kept = refl; keeps = refl; short = h })
+    module _ (no-kept : fitsOf (text "restore") line ≡ false) where
+      pub by-restore : {saved : List ℕ} → fitsOf (text "restore LLLLLLLL OOOOOOOOOOOOOOOO MMMMMMMM KKKKKKKK RRRRRRRR") line ≡ true → saved ≡ wordsIn line
+          → Answers (restore saved) clocks out at r out′ → Answers (asksSaved clocks line) clocks out at r out′
+      unfolding asksSaved
+      by-restore f e a = rw (no-save, no-kept, f, ← e) a
 
-module _ (line : List ℕ) (lent : Lent) {out out′ : List ℕ} {at r : ℕ} (no-save : fitsOf (text "save") line ≡ false) (no-kept : fitsOf (text "restore") line ≡ false) where
-  pub by-restore : {saved words′ : List ℕ} → fitsOf (text "restore LLLLLLLL OOOOOOOOOOOOOOOO MMMMMMMM KKKKKKKK RRRRRRRR") line ≡ true → saved ≡ wordsIn line → Brought saved words′ out at out′ r → r ≤ at + 4096 → Answers (asksSaved lent line) lent out at (record { clock = words′; time = lent .time; kept = lent .kept; keeps = lent .keeps }) out′ r
-  unfolding asksSaved
-  by-restore f e b h =
-      rw (no-save, no-kept, f)
-      (record { reached = b .reached; tells = rw (← e) (b .tells); said = b .said; clock = rw (← e) (ap clockOf (b .words)); time = refl; kept = refl; keeps = refl; short = h })
-
-  pub by-nothing : fitsOf (text "restore LLLLLLLL OOOOOOOOOOOOOOOO MMMMMMMM KKKKKKKK RRRRRRRR") line ≡ false → Puts out at (text "?\n") out′ r → r ≤ at + 4096 → Answers (asksSaved lent line) lent out at lent out′ r
-  unfolding asksSaved
-  by-nothing f p h = rw (no-save, no-kept, f) (record { reached = false; tells = tt; said = p; clock = refl; time = refl; kept = refl; keeps = refl; short = h })
+      pub by-nothing : fitsOf (text "restore LLLLLLLL OOOOOOOOOOOOOOOO MMMMMMMM KKKKKKKK RRRRRRRR") line ≡ false → Answers nothing clocks out at r out′
+          → Answers (asksSaved clocks line) clocks out at r out′
+      unfolding asksSaved
+      by-nothing f a = rw (no-save, no-kept, f) a

@@ -16,16 +16,8 @@ use Rattle.words.specs.Put.{Puts}
 use Rattle.words.specs.Text.{text}
 use Rattle.words.specs.declared.decimal.Number.{Number}
 use Rattle.words.specs.declared.decimal.Number.the-variants.{Is, Bad}
-
--- What the caller lends: the clock, the host's time, the clock that was saved last, and whether one was.
-pub record Lent : Type 0 where
-  pub clock : List ℕ
-  pub time : ℕ
-  pub kept : List ℕ
-  pub keeps : Bool
-
-abbrev pub lends : List ℕ → ℕ → List ℕ → Bool → Lent
-lends clock time kept keeps = record { clock = clock; time = time; kept = kept; keeps = keeps }
+use Rattle.clock_lines.specs.declared.Clocks.{Clocks}
+use Rattle.clock_lines.specs.declared.Said.{Said}
 
 -- ---- What a line asks for
 
@@ -56,18 +48,21 @@ asksTime (Is time) = setTime time
 asksTime Bad = nothing
 
 -- `restore` alone asks for the clock that was saved last.
-unfoldable pub asksSaved : Lent → List ℕ → Asks
-asksSaved lent line =
+abbrev pub asksKept : Clocks → Asks
+asksKept clocks = cond (clocks .keeps) (restore (clocks .kept)) nothing
+
+unfoldable pub asksSaved : Clocks → List ℕ → Asks
+asksSaved clocks line =
     cond (fitsOf (text "save") line) save
-    (cond (fitsOf (text "restore") line) (cond (lent .keeps) (restore (lent .kept)) nothing)
+    (cond (fitsOf (text "restore") line) (asksKept clocks)
     (cond (fitsOf (text "restore LLLLLLLL OOOOOOOOOOOOOOOO MMMMMMMM KKKKKKKK RRRRRRRR") line) (restore (wordsIn line)) nothing))
 
-unfoldable pub asks : Lent → List ℕ → Asks
-asks lent line =
+unfoldable pub asks : Clocks → List ℕ → Asks
+asks clocks line =
     cond (fitsOf (text "r OOOO BBBBBBBB") line) (read (offsetIn line) (bytesIn line))
     (cond (fitsOf (text "w OOOO BBBBBBBB") line) (write (offsetIn line) (bytesIn line))
     (cond (beginsLike (text "now ") line) (asksTime (numberOf (drop 4 line)))
-    (cond (fitsOf (text "state") line) showState (asksSaved lent line))))
+    (cond (fitsOf (text "state") line) showState (asksSaved clocks line))))
 
 -- ---- What is said
 
@@ -75,11 +70,17 @@ asks lent line =
 abbrev pub fourDigits : List ℕ → List ℕ
 fourDigits bytes = digitsOf (getD bytes 0 0) ++ digitsOf (getD bytes 1 0) ++ digitsOf (getD bytes 2 0) ++ digitsOf (getD bytes 3 0)
 
+abbrev pub readSaid : List ℕ → Bool → List ℕ
+readSaid bytes valid = text "r " ++ fourDigits bytes ++ cond valid (text " ok\n") (text " invalid\n")
+
 abbrev pub readSays : Reply → List ℕ → List ℕ
-readSays reply bytes = text "r " ++ fourDigits (bytesAfter reply bytes) ++ cond (readValid reply) (text " ok\n") (text " invalid\n")
+readSays reply bytes = readSaid (bytesAfter reply bytes) (readValid reply)
+
+abbrev pub writeSaid : Bool → List ℕ
+writeSaid valid = cond valid (text "w ok\n") (text "w invalid\n")
 
 abbrev pub writeSays : Change → List ℕ
-writeSays change = cond (writeValid change) (text "w ok\n") (text "w invalid\n")
+writeSays change = writeSaid (writeValid change)
 
 -- After `state` or `save`: the load register, the two halves of what the clock is ahead of the host's time, the match register, the mask and the raw
 -- status.
@@ -91,14 +92,14 @@ stateSays name words =
 abbrev pub restoreSays : Bool → List ℕ
 restoreSays reached = cond reached (text "restore reached\n") (text "restore unreached\n")
 
-abbrev pub says : Asks → Lent → Bool → List ℕ
-says (read offset bytes) lent reached = readSays (readOf (clockOf (lent .clock)) (lent .time) offset) bytes
-says (write offset bytes) lent reached = writeSays (writeOf (clockOf (lent .clock)) (lent .time) offset (valueOf bytes))
-says (setTime t) lent reached = text "now\n"
-says showState lent reached = stateSays (text "state") (lent .clock)
-says save lent reached = stateSays (text "save") (lent .clock)
-says (restore saved) lent reached = restoreSays reached
-says nothing lent reached = text "?\n"
+abbrev pub says : Asks → Clocks → Bool → List ℕ
+says (read offset bytes) clocks reached = readSays (readOf (clockOf (clocks .clock)) (clocks .time) offset) bytes
+says (write offset bytes) clocks reached = writeSays (writeOf (clockOf (clocks .clock)) (clocks .time) offset (valueOf bytes))
+says (setTime t) clocks reached = text "now\n"
+says showState clocks reached = stateSays (text "state") (clocks .clock)
+says save clocks reached = stateSays (text "save") (clocks .clock)
+says (restore saved) clocks reached = restoreSays reached
+says nothing clocks reached = text "?\n"
 
 -- What `reached` is where a clock is brought back: whether a run from a fresh one could have come to it.
 abbrev pub Tells : Asks → Bool → Type 0
@@ -139,29 +140,13 @@ isSave save = true
 isSave (restore saved) = false
 isSave nothing = false
 
--- A write was answered.
-pub record Wrote (change : Change) (words words′ out : List ℕ) (at : ℕ) (out′ : List ℕ) (r : ℕ) : Type 0 where
-  pub said : Puts out at (writeSays change) out′ r
-  pub clock : clockOf words′ ≡ clockAfter change (clockOf words)
-
--- A clock was brought back.
-pub record Brought (saved words′ out : List ℕ) (at : ℕ) (out′ : List ℕ) (r : ℕ) : Type 0 where
-  pub reached : Bool
-  pub tells : (reached ≡ true) ↔ Reachable (clockOf saved)
-  pub said : Puts out at (restoreSays reached) out′ r
-  pub words : words′ ≡ saved
-
 -- What a line asks for was answered.
-pub record Answers (asked : Asks) (lent : Lent) (out : List ℕ) (at : ℕ) (lent′ : Lent) (out′ : List ℕ) (r : ℕ) : Type 0 where
+pub record Answers (asked : Asks) (clocks : Clocks) (out : List ℕ) (at : ℕ) (r : Said) (out′ : List ℕ) : Type 0 where
   pub reached : Bool
   pub tells : Tells asked reached
-  pub said : Puts out at (says asked lent reached) out′ r
-  pub clock : clockOf (lent′ .clock) ≡ clockThen asked (clockOf (lent .clock)) (lent .time)
-  pub time : lent′ .time ≡ timeThen asked (lent .time)
-  pub kept : lent′ .kept ≡ cond (isSave asked) (lent .clock) (lent .kept)
-  pub keeps : lent′ .keeps ≡ (isSave asked || lent .keeps)
-  pub short : r ≤ at + 4096
-
--- A line was answered, given what it asks for.
-abbrev pub AnswersLine : (Lent → List ℕ → Asks) → List ℕ → Lent → List ℕ → ℕ → Lent → List ℕ → ℕ → Type 0
-AnswersLine asking line lent out at lent′ out′ r = Answers (asking lent line) lent out at lent′ out′ r
+  pub said : Puts out at (says asked clocks reached) out′ (r .put)
+  pub clock : clockOf (r .clocks .clock) ≡ clockThen asked (clockOf (clocks .clock)) (clocks .time)
+  pub time : r .clocks .time ≡ timeThen asked (clocks .time)
+  pub kept : r .clocks .kept ≡ cond (isSave asked) (clocks .clock) (clocks .kept)
+  pub keeps : r .clocks .keeps ≡ (isSave asked || clocks .keeps)
+  pub short : r .put ≤ at + 4096

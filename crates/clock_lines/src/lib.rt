@@ -16,57 +16,75 @@ use words::put::put_word;
 use words::put::unknown;
 ghost use Prim.Native.Nat.{_+_, _≤_};
 ghost use mathlib.Core.Path.{_≡_};
+ghost use mathlib.Core.Bool.{false};
 ghost use mathlib.Core.List.{_++_};
-ghost use lib.ListN.{length};
-ghost use Rattle.common.specs.Bytes.{valueOf};
-ghost use Rattle.clock.specs.Registers.{readOf, writeOf, fresh};
+ghost use lib.ListN.{length, drop};
+ghost use Rattle.clock.specs.Registers.{fresh};
 ghost use Rattle.clock.specs.Layout.{clockOf};
+ghost use Rattle.words.specs.Decimal.{numberOf};
 ghost use Rattle.words.specs.Hex.{wordDigits};
 ghost use Rattle.words.specs.Put.{Puts};
 ghost use Rattle.words.specs.Text.{text};
-ghost use Rattle.clock_lines.specs.Answers.{AnswersLine, Wrote, lends, asks, offsetIn, bytesIn, fourDigits, readSays, stateSays};
+ghost use Rattle.clock_lines.specs.Answers.{Answers, asks, asksTime, read, write, showState, offsetIn, bytesIn, fourDigits, readSaid, writeSaid, stateSays};
 
-// The clock's state, which the caller lends.
+// The memory of a clock.
 pub type Clock = [u32; 6];
 
-// Makes the clock a fresh one, at the time 0.
-pub fn begin(clock: &mut Clock, time: &mut u64)
-    ensures { λ r. ⌜ (clockOf (now (clock .exit)) ≡ fresh) × (now (time .exit) ≡ 0) ⌝ }
-{
-    serialpost_clock_init(clock);
-    *time = 0;
+// The clock and the host's time, and the clock that was saved last, if `keeps` says that one was.
+pub struct Clocks {
+    pub clock: Clock,
+    pub time: u64,
+    pub kept: Clock,
+    pub keeps: bool,
 }
 
-// `kept` is the clock that was saved last, if `keeps` says that one was.
-pub fn answer(
-    line: &[u8],
-    clock: &mut Clock,
-    time: &mut u64,
-    kept: &mut Clock,
-    keeps: &mut bool,
-    out: &mut Block,
-    at: usize,
-) -> usize
+// The clocks after a line, and how much of `out` is used.
+pub struct Said {
+    pub clocks: Clocks,
+    pub put: usize,
+}
+
+// No clock was begun and none saved.
+pub fn start() -> Clocks
+    ensures { λ r. ⌜ r .keeps ≡ false ⌝ }
+{
+    Clocks {
+        clock: [0; 6],
+        time: 0,
+        kept: [0; 6],
+        keeps: false,
+    }
+}
+
+// Makes the clock a fresh one, at the time 0, and leaves what was saved.
+pub fn begin(mut clocks: Clocks) -> Clocks
+    ensures { λ r. ⌜ (clockOf (r .clock) ≡ fresh) × (r .time ≡ 0) ⌝ }
+    ensures { λ r. ⌜ (r .kept ≡ clocks .kept) × (r .keeps ≡ clocks .keeps) ⌝ }
+{
+    let mut clock = clocks.clock;
+    serialpost_clock_init(&mut clock);
+    clocks.clock = clock;
+    clocks.time = 0;
+    clocks
+}
+
+pub fn answer(line: &[u8], clocks: Clocks, out: &mut Block, at: usize) -> Said
     requires { ⌜ at + 4096 ≤ 65536 ⌝ }
-    ensures { λ r. ⌜ AnswersLine asks (now (line .entry)) (lends (now (clock .entry)) (now (time .entry)) (now (kept .entry)) (now (keeps .entry))) (now (out .entry)) at (lends (now (clock .exit)) (now (time .exit)) (now (kept .exit)) (now (keeps .exit))) (now (out .exit)) r ⌝ }
+    ensures { λ r. ⌜ Answers (asks clocks (now (line .entry))) clocks (now (out .entry)) at r (now (out .exit)) ⌝ }
 {
     if fits(line, b"r OOOO BBBBBBBB") {
-        return read(clock, offset_in(line), *time, bytes_in(line), out, at);
+        return read(clocks, offset_in(line), bytes_in(line), out, at);
     }
     if fits(line, b"w OOOO BBBBBBBB") {
-        return write(clock, offset_in(line), *time, bytes_in(line), out, at);
+        return write(clocks, offset_in(line), bytes_in(line), out, at);
     }
     if begins(line, b"now ") {
-        let Number::Is(now) = decimal::parse_from(line, 4) else {
-            return unknown(out, at);
-        };
-        *time = now;
-        return put(out, at, b"now\n");
+        return set_time(line, clocks, out, at);
     }
     if fits(line, b"state") {
-        return state(b"state", clock, out, at);
+        return show(clocks, out, at);
     }
-    saved::answer(line, clock, kept, keeps, out, at)
+    saved::answer(line, clocks, out, at)
 }
 
 // OOOO, of `r OOOO BBBBBBBB` and `w OOOO BBBBBBBB`.
@@ -88,22 +106,25 @@ fn bytes_in(line: &[u8]) -> [u8; 4]
     ]
 }
 
-fn read(
-    clock: &Clock,
-    offset: u16,
-    time: u64,
-    mut bytes: [u8; 4],
-    out: &mut Block,
-    at: usize,
-) -> usize
+fn read(clocks: Clocks, offset: u16, mut bytes: [u8; 4], out: &mut Block, at: usize) -> Said
     requires { ⌜ at + 4096 ≤ 65536 ⌝ }
-    ensures { λ r. ⌜ Puts (now (out .entry)) at (readSays (readOf (clockOf (now (clock .entry))) time offset) bytes) (now (out .exit)) r ⌝ }
-    ensures { λ r. ⌜ r ≤ at + 4096 ⌝ }
+    ensures { λ r. ⌜ Answers (read offset bytes) clocks (now (out .entry)) at r (now (out .exit)) ⌝ }
 {
-    let is_valid = serialpost_clock_read(clock, offset, time, &mut bytes);
+    let clock = clocks.clock;
+    let valid = serialpost_clock_read(&clock, offset, clocks.time, &mut bytes);
+    let put = put_read(out, at, bytes, valid);
+    Said { clocks, put }
+}
+
+// What a read left in the four bytes, and whether its offset was valid.
+fn put_read(out: &mut Block, at: usize, bytes: [u8; 4], valid: bool) -> usize
+    requires { ⌜ at + 19 ≤ 65536 ⌝ }
+    ensures { λ r. ⌜ Puts (now (out .entry)) at (readSaid bytes valid) (now (out .exit)) r ⌝ }
+    ensures { λ r. ⌜ r ≤ at + 19 ⌝ }
+{
     let a = put(out, at, b"r ");
     let b = put_bytes(out, a, bytes);
-    if is_valid {
+    if valid {
         return put(out, b, b" ok\n");
     }
     put(out, b, b" invalid\n")
@@ -121,22 +142,50 @@ fn put_bytes(out: &mut Block, at: usize, bytes: [u8; 4]) -> usize
     put_byte(out, c, bytes[3])
 }
 
-fn write(
-    clock: &mut Clock,
-    offset: u16,
-    time: u64,
-    bytes: [u8; 4],
-    out: &mut Block,
-    at: usize,
-) -> usize
+fn write(mut clocks: Clocks, offset: u16, bytes: [u8; 4], out: &mut Block, at: usize) -> Said
     requires { ⌜ at + 4096 ≤ 65536 ⌝ }
-    ensures { λ r. ⌜ Wrote (writeOf (clockOf (now (clock .entry))) time offset (valueOf bytes)) (now (clock .entry)) (now (clock .exit)) (now (out .entry)) at (now (out .exit)) r ⌝ }
-    ensures { λ r. ⌜ r ≤ at + 4096 ⌝ }
+    ensures { λ r. ⌜ Answers (write offset bytes) clocks (now (out .entry)) at r (now (out .exit)) ⌝ }
 {
-    if serialpost_clock_write(clock, offset, time, &bytes) {
+    let mut clock = clocks.clock;
+    let valid = serialpost_clock_write(&mut clock, offset, clocks.time, &bytes);
+    clocks.clock = clock;
+    let put = put_write(out, at, valid);
+    Said { clocks, put }
+}
+
+// Whether a write's offset was valid.
+fn put_write(out: &mut Block, at: usize, valid: bool) -> usize
+    requires { ⌜ at + 10 ≤ 65536 ⌝ }
+    ensures { λ r. ⌜ Puts (now (out .entry)) at (writeSaid valid) (now (out .exit)) r ⌝ }
+    ensures { λ r. ⌜ r ≤ at + 10 ⌝ }
+{
+    if valid {
         return put(out, at, b"w ok\n");
     }
     put(out, at, b"w invalid\n")
+}
+
+// `now T`.
+fn set_time(line: &[u8], mut clocks: Clocks, out: &mut Block, at: usize) -> Said
+    requires { ⌜ at + 4096 ≤ 65536 ⌝ }
+    ensures { λ r. ⌜ Answers (asksTime (numberOf (drop 4 (now (line .entry))))) clocks (now (out .entry)) at r (now (out .exit)) ⌝ }
+{
+    let Number::Is(now) = decimal::parse_from(line, 4) else {
+        let put = unknown(out, at);
+        return Said { clocks, put };
+    };
+    clocks.time = now;
+    let put = put(out, at, b"now\n");
+    Said { clocks, put }
+}
+
+fn show(clocks: Clocks, out: &mut Block, at: usize) -> Said
+    requires { ⌜ at + 4096 ≤ 65536 ⌝ }
+    ensures { λ r. ⌜ Answers (showState) clocks (now (out .entry)) at r (now (out .exit)) ⌝ }
+{
+    let clock = clocks.clock;
+    let put = state(b"state", &clock, out, at);
+    Said { clocks, put }
 }
 
 // After `name`: the load register, how far the clock is ahead of the host's time, the match register,

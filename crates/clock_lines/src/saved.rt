@@ -1,5 +1,7 @@
 // The lines that write the clock down and bring it back.
 use crate::Clock;
+use crate::Clocks;
+use crate::Said;
 use crate::state;
 use clock_saved::serialpost_clock_restore;
 use clock_saved::serialpost_clock_save;
@@ -8,53 +10,76 @@ use words::hex::byte_at;
 use words::pattern::fits;
 use words::put::put;
 use words::put::unknown;
-ghost use Prim.Native.Nat.{ℕ, _+_, _≤_};
+ghost use Prim.Native.Nat.{_+_, _≤_};
 ghost use mathlib.Core.Path.{_≡_};
-ghost use mathlib.Core.Bool.{true};
 ghost use Rattle.words.specs.Put.{Puts};
-ghost use Rattle.words.specs.Text.{text};
-ghost use Rattle.clock_lines.specs.Answers.{AnswersLine, Brought, lends, asksSaved, stateSays, wordAt, wordsIn};
+ghost use Rattle.clock_lines.specs.Answers.{Answers, asksSaved, asksKept, save, restore, restoreSays, wordAt, wordsIn};
 
-// No line here tells or changes the time.
-pub fn answer(
-    line: &[u8],
-    clock: &mut Clock,
-    kept: &mut Clock,
-    keeps: &mut bool,
-    out: &mut Block,
-    at: usize,
-) -> usize
+pub fn answer(line: &[u8], clocks: Clocks, out: &mut Block, at: usize) -> Said
     requires { ⌜ at + 4096 ≤ 65536 ⌝ }
-    ensures { λ r. ⌜ ((time : ℕ) → AnswersLine asksSaved (now (line .entry)) (lends (now (clock .entry)) time (now (kept .entry)) (now (keeps .entry))) (now (out .entry)) at (lends (now (clock .exit)) time (now (kept .exit)) (now (keeps .exit))) (now (out .exit)) r) ⌝ }
-    ensures { λ r. ⌜ r ≤ at + 4096 ⌝ }
+    ensures { λ r. ⌜ Answers (asksSaved clocks (now (line .entry))) clocks (now (out .entry)) at r (now (out .exit)) ⌝ }
 {
     if fits(line, b"save") {
-        serialpost_clock_save(clock, kept);
-        *keeps = true;
-        return state(b"save", kept, out, at);
+        return save(clocks, out, at);
     }
     if fits(line, b"restore") {
-        if *keeps {
-            return restore(clock, kept, out, at);
-        }
-        return unknown(out, at);
+        return restore_kept(clocks, out, at);
     }
     if fits(
         line,
         b"restore LLLLLLLL OOOOOOOOOOOOOOOO MMMMMMMM KKKKKKKK RRRRRRRR",
     ) {
         let words = words_in(line);
-        return restore(clock, &words, out, at);
+        return restore(clocks, &words, out, at);
     }
-    unknown(out, at)
+    let put = unknown(out, at);
+    Said { clocks, put }
 }
 
-fn restore(clock: &mut Clock, saved: &Clock, out: &mut Block, at: usize) -> usize
+fn save(mut clocks: Clocks, out: &mut Block, at: usize) -> Said
     requires { ⌜ at + 4096 ≤ 65536 ⌝ }
-    ensures { λ r. ⌜ Brought (now (saved .entry)) (now (clock .exit)) (now (out .entry)) at (now (out .exit)) r ⌝ }
-    ensures { λ r. ⌜ r ≤ at + 4096 ⌝ }
+    ensures { λ r. ⌜ Answers (save) clocks (now (out .entry)) at r (now (out .exit)) ⌝ }
 {
-    if serialpost_clock_restore(clock, saved) {
+    let clock = clocks.clock;
+    let mut kept = clocks.kept;
+    serialpost_clock_save(&clock, &mut kept);
+    clocks.kept = kept;
+    clocks.keeps = true;
+    let put = state(b"save", &kept, out, at);
+    Said { clocks, put }
+}
+
+// `restore`, of the clock that was saved last, if one was.
+fn restore_kept(clocks: Clocks, out: &mut Block, at: usize) -> Said
+    requires { ⌜ at + 4096 ≤ 65536 ⌝ }
+    ensures { λ r. ⌜ Answers (asksKept clocks) clocks (now (out .entry)) at r (now (out .exit)) ⌝ }
+{
+    if clocks.keeps {
+        let kept = clocks.kept;
+        return restore(clocks, &kept, out, at);
+    }
+    let put = unknown(out, at);
+    Said { clocks, put }
+}
+
+fn restore(mut clocks: Clocks, saved: &Clock, out: &mut Block, at: usize) -> Said
+    requires { ⌜ at + 4096 ≤ 65536 ⌝ }
+    ensures { λ r. ⌜ Answers (restore (now (saved .entry))) clocks (now (out .entry)) at r (now (out .exit)) ⌝ }
+{
+    let mut clock = clocks.clock;
+    let reached = serialpost_clock_restore(&mut clock, saved);
+    clocks.clock = clock;
+    let put = put_restore(out, at, reached);
+    Said { clocks, put }
+}
+
+// Whether a run could have reached the clock that was brought back.
+fn put_restore(out: &mut Block, at: usize, reached: bool) -> usize
+    requires { ⌜ at + 18 ≤ 65536 ⌝ }
+    ensures { λ r. ⌜ Puts (now (out .entry)) at (restoreSays reached) (now (out .exit)) r ⌝ }
+    ensures { λ r. ⌜ r ≤ at + 18 ⌝ }
+{
+    if reached {
         return put(out, at, b"restore reached\n");
     }
     put(out, at, b"restore unreached\n")

@@ -7,11 +7,9 @@
 mod cut;
 mod devices;
 
-use clock_lines::Clock;
 use devices::Device;
-use serial_lines::Pos;
-use serial_lines::Regs;
-use serial_lines::Ring;
+use devices::Devices;
+use devices::Whose;
 use words::Block;
 ghost use Prim.Native.Nat.{_+_, _-_, _≤_, _<_};
 ghost use mathlib.Core.Path.{_≡_};
@@ -26,7 +24,6 @@ const ENOUGH: usize = 61440;
 // current line was too long: its answer is given, and what is left of it is passed over. `put`
 // bytes of answers wait to be written; `full` says that lines wait for that.
 pub struct State {
-    pub device: Device,
     pub from: usize,
     pub seen: usize,
     pub end: usize,
@@ -36,88 +33,97 @@ pub struct State {
     pub full: bool,
 }
 
-pub fn start() -> State
-    ensures { λ r. ⌜ Sound r ⌝ }
-    ensures { λ r. ⌜ Answered r ⌝ }
+// What a turn leaves.
+pub struct Turn {
+    pub devices: Devices,
+    pub state: State,
+}
+
+pub fn start() -> Turn
+    ensures { λ r. ⌜ Sound (r .state) ⌝ }
+    ensures { λ r. ⌜ Answered (r .state) ⌝ }
 {
-    State {
-        device: Device::Nothing,
-        from: 0,
-        seen: 0,
-        end: 0,
-        put: 0,
-        ended: false,
-        passes: false,
-        full: false,
+    Turn {
+        devices: Devices {
+            device: Device::Nothing,
+            clocks: clock_lines::start(),
+            ports: serial_lines::start(),
+        },
+        state: State {
+            from: 0,
+            seen: 0,
+            end: 0,
+            put: 0,
+            ended: false,
+            passes: false,
+            full: false,
+        },
     }
 }
 
-// Answers each whole line that is held, until none is left or `out` is nearly full. The devices are
-// those of `clock_lines` and `serial_lines`, each with the one that was saved last.
-pub fn answer(
-    held: &Block,
-    clock: &mut Clock,
-    time: &mut u64,
-    kept: &mut Clock,
-    keeps: &mut bool,
-    regs: &mut Regs,
-    pos: &mut Pos,
-    ring: &mut Ring,
-    saved: &mut Regs,
-    waiting: &mut Ring,
-    count: &mut u32,
-    out: &mut Block,
-    before: State,
-) -> State
+// Answers each whole line that is held, until none is left or `out` is nearly full.
+pub fn answer(held: &Block, devices: Devices, out: &mut Block, before: State) -> Turn
     requires { ⌜ Sound before ⌝ }
-    ensures { λ r. ⌜ Sound r ⌝ }
-    ensures { λ r. ⌜ Answered r ⌝ }
+    ensures { λ r. ⌜ Sound (r .state) ⌝ }
+    ensures { λ r. ⌜ Answered (r .state) ⌝ }
 {
     let all: &[u8] = held;
     let end = before.end;
-    let ended = before.ended;
     let mut state = before;
+    let mut device = devices.device;
+    let mut clocks = devices.clocks;
+    let mut ports = devices.ports;
     while state.seen < end {
-        if state.put > ENOUGH {
+        let at = state.put;
+        if at > ENOUGH {
             state.full = true;
-            return state;
+            return Turn {
+                devices: Devices {
+                    device,
+                    clocks,
+                    ports,
+                },
+                state,
+            };
         }
         let from = state.from;
         let cut = cut::next_line(all, from, state.seen, end, state.passes);
         let stop = cut.stop;
         let kind = cut.kind;
-        let device = state.device;
-        let said = devices::answer(
-            &all[from..stop],
-            kind,
-            device,
-            clock,
-            time,
-            kept,
-            keeps,
-            regs,
-            pos,
-            ring,
-            saved,
-            waiting,
-            count,
-            out,
-            state.put,
-        );
-        let next = said.device;
-        state = State {
-            device: next,
-            from: cut.from,
-            seen: cut.seen,
-            end,
-            put: said.put,
-            ended,
-            passes: cut.passes,
-            full: false,
-        };
+        let line = &all[from..stop];
+        let task = devices::task_of(line, kind, device);
+        device = task.device;
+        state.from = cut.from;
+        state.seen = cut.seen;
+        state.passes = cut.passes;
+        let whose = task.whose;
+        match whose {
+            Whose::Clocks => {
+                let said = devices::clock(line, task.fresh, clocks, out, at);
+                let after = said.clocks;
+                clocks = after;
+                state.put = said.put;
+            }
+            Whose::Ports => {
+                let said = devices::serial(line, task.fresh, ports, out, at);
+                let after = said.ports;
+                ports = after;
+                state.put = said.put;
+            }
+            _ => {
+                state.put = devices::plain(line, whose, task.fresh, out, at);
+            }
+        }
     }
     state.full = false;
-    state
+    Turn {
+        devices: Devices {
+            device,
+            clocks,
+            ports,
+        },
+        state,
+    }
 }
 
 // Moves the current line to the start of `held`, so that there is space to read.

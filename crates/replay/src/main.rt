@@ -2,14 +2,10 @@
 //
 // There is no exit status to tell a failure by: a run that failed says so in one line on standard
 // error, and a run that did not writes nothing there.
-use clock_lines::Clock;
 use libc::STDERR_FILENO;
 use libc::STDIN_FILENO;
 use libc::STDOUT_FILENO;
 use lines::State;
-use serial_lines::Pos;
-use serial_lines::Regs;
-use serial_lines::Ring;
 use words::Block;
 ghost use Prim.Native.Nat.{_+_, _≤_};
 ghost use mathlib.Core.Path.{_≡_};
@@ -139,42 +135,18 @@ fn exchange(held: &mut Block, out: &Block, before: State) -> Next
     fill(held, state)
 }
 
-fn run(
-    held: &mut Block,
-    clock: &mut Clock,
-    time: &mut u64,
-    kept: &mut Clock,
-    keeps: &mut bool,
-    regs: &mut Regs,
-    pos: &mut Pos,
-    ring: &mut Ring,
-    saved: &mut Regs,
-    waiting: &mut Ring,
-    count: &mut u32,
-    out: &mut Block,
-) {
-    let mut state = lines::start();
+fn run(held: &mut Block, out: &mut Block) {
+    let mut turn = lines::start();
     let mut turns = ENDLESS;
     while turns > 0 {
+        let state = turn.state;
         let next = exchange(held, out, state);
         if !next.more {
             return;
         }
-        state = lines::answer(
-            held,
-            clock,
-            time,
-            kept,
-            keeps,
-            regs,
-            pos,
-            ring,
-            saved,
-            waiting,
-            count,
-            out,
-            next.state,
-        );
+        let devices = turn.devices;
+        let read = next.state;
+        turn = lines::answer(held, devices, out, read);
         turns -= 1;
     }
 }
@@ -182,28 +154,5 @@ fn run(
 fn main() {
     let mut held = io::large_buffer();
     let mut out = io::large_buffer();
-    let mut clock = [0u32; 6];
-    let mut time = 0u64;
-    let mut kept = [0u32; 6];
-    let mut keeps = false;
-    let mut regs = [0u8; 9];
-    let mut pos = [0u32; 2];
-    let mut ring = [0u8; 64];
-    let mut saved = [0u8; 9];
-    let mut waiting = [0u8; 64];
-    let mut count = serial_lines::NONE;
-    run(
-        &mut held,
-        &mut clock,
-        &mut time,
-        &mut kept,
-        &mut keeps,
-        &mut regs,
-        &mut pos,
-        &mut ring,
-        &mut saved,
-        &mut waiting,
-        &mut count,
-        &mut out,
-    );
+    run(&mut held, &mut out);
 }

@@ -24,8 +24,8 @@ use Rattle.words.specs.Text.{text}
 use Rattle.words.specs.declared.hex.Bytes.{Bytes}
 use Rattle.words.specs.declared.hex.Bytes.the-variants.{Are, Bad}
 use Rattle.words.proofs.Putting.{both}
+use Rattle.serial_lines.specs.declared.Ports.{Ports}
 use Rattle.serial_lines.specs.Answers.{
-  Lent,
   Asks,
   Answers,
   DidRead,
@@ -45,25 +45,25 @@ use Rattle.serial_lines.specs.Answers.{
   portSays,
 }
 
--- What is lent, with the port in other memory.
-abbrev pub holding : Lent → List ℕ → List ℕ → List ℕ → Lent
-holding lent regs pos ring = record { regs = regs; pos = pos; ring = ring; saved = lent .saved; waiting = lent .waiting; count = lent .count }
+-- What is ports, with the port in other memory.
+abbrev pub holding : Ports → List ℕ → List ℕ → List ℕ → Ports
+holding ports regs pos ring = record { regs = regs; pos = pos; ring = ring; saved = ports .saved; waiting = ports .waiting; count = ports .count }
 
 -- ---- A line that asks for nothing, and one that brings a port back
 
-unknown : (lent : Lent) {out out′ : List ℕ} {at r : ℕ} → Puts out at (text "?\n") out′ r → r ≤ at + 4096 → Answers nothing lent out at lent out′ r
-unknown lent p h = record { reached = false; tells = tt; said = p; port = refl; kept = (refl, refl, refl); short = h }
+unknown : (ports : Ports) {out out′ : List ℕ} {at r : ℕ} → Puts out at (text "?\n") out′ r → r ≤ at + 4096 → Answers nothing ports out at ports out′ r
+unknown ports p h = record { reached = false; tells = tt; said = p; port = refl; kept = (refl, refl, refl); short = h }
 
-brought : (lent : Lent) {saved : Port} {regs′ pos′ ring′ out out′ : List ℕ} {at r : ℕ}
-    → Brought saved (lent .regs) (lent .pos) (lent .ring) regs′ pos′ ring′ out at out′ r → r ≤ at + 4096
-    → Answers (restore saved) lent out at (holding lent regs′ pos′ ring′) out′ r
-brought lent b h =
+brought : (ports : Ports) {saved : Port} {regs′ pos′ ring′ out out′ : List ℕ} {at r : ℕ}
+    → Brought saved (ports .regs) (ports .pos) (ports .ring) regs′ pos′ ring′ out at out′ r → r ≤ at + 4096
+    → Answers (restore saved) ports out at (holding ports regs′ pos′ ring′) out′ r
+brought ports b h =
     record { reached = b .reached; tells = b .tells; said = b .did .says; port = b .did .holds; kept = (refl, refl, refl); short = h }
 
-entered : (lent : Lent) {bytes regs′ pos′ ring′ out out′ : List ℕ} {at r : ℕ}
-    → DidInput bytes (lent .regs) (lent .pos) (lent .ring) regs′ pos′ ring′ out at out′ r → r ≤ at + 4096
-    → Answers (input bytes) lent out at (holding lent regs′ pos′ ring′) out′ r
-entered lent d h = record { reached = false; tells = tt; said = d .says; port = d .holds; kept = (refl, refl, refl); short = h }
+entered : (ports : Ports) {bytes regs′ pos′ ring′ out out′ : List ℕ} {at r : ℕ}
+    → DidInput bytes (ports .regs) (ports .pos) (ports .ring) regs′ pos′ ring′ out at out′ r → r ≤ at + 4096
+    → Answers (input bytes) ports out at (holding ports regs′ pos′ ring′) out′ r
+entered ports d h = record { reached = false; tells = tt; said = d .says; port = d .holds; kept = (refl, refl, refl); short = h }
 
 -- ---- Bytes that end a line
 
@@ -86,34 +86,34 @@ module _ {digits bytes : List ℕ} {b : Bytes} (g : Gives digits bytes b) where
   unfolding countOf
   first n e = rw (e, good n e) at (g .first)
 
-  pub bad-bytes : (lent : Lent) (ask : List ℕ → Asks) {out out′ : List ℕ} {at r : ℕ} → b ≡ Bad → Puts out at (text "?\n") out′ r → r ≤ at + 4096
-      → Answers (asksWith digits ask) lent out at lent out′ r
-  bad-bytes lent ask e p h = rw (bad e) (unknown lent p h)
+  pub bad-bytes : (ports : Ports) (ask : List ℕ → Asks) {out out′ : List ℕ} {at r : ℕ} → b ≡ Bad → Puts out at (text "?\n") out′ r → r ≤ at + 4096
+      → Answers (asksWith digits ask) ports out at ports out′ r
+  bad-bytes ports ask e p h = rw (bad e) (unknown ports p h)
 
-  pub input-bytes : (lent : Lent) {n : ℕ} {regs′ pos′ ring′ out out′ : List ℕ} {at r : ℕ} → b ≡ Are n
-      → DidInput (take n bytes) (lent .regs) (lent .pos) (lent .ring) regs′ pos′ ring′ out at out′ r → r ≤ at + 4096
-      → Answers (asksWith digits input) lent out at (holding lent regs′ pos′ ring′) out′ r
-  input-bytes lent {n} e d h = rw (good n e, ← first n e) (entered lent d h)
+  pub input-bytes : (ports : Ports) {n : ℕ} {regs′ pos′ ring′ out out′ : List ℕ} {at r : ℕ} → b ≡ Are n
+      → DidInput (take n bytes) (ports .regs) (ports .pos) (ports .ring) regs′ pos′ ring′ out at out′ r → r ≤ at + 4096
+      → Answers (asksWith digits input) ports out at (holding ports regs′ pos′ ring′) out′ r
+  input-bytes ports {n} e d h = rw (good n e, ← first n e) (entered ports d h)
 
-  pub given-bytes : (lent : Lent) (line saved : List ℕ) {n : ℕ} {regs′ pos′ ring′ out out′ : List ℕ} {at r : ℕ} → b ≡ Are n
+  pub given-bytes : (ports : Ports) (line saved : List ℕ) {n : ℕ} {regs′ pos′ ring′ out out′ : List ℕ} {at r : ℕ} → b ≡ Are n
       → ((w : List ℕ) → savedOf saved w ≡ givenIn line w)
-      → Brought (savedOf saved (take n bytes)) (lent .regs) (lent .pos) (lent .ring) regs′ pos′ ring′ out at out′ r → r ≤ at + 4096
-      → Answers (asksWith digits (λ w. restore (givenIn line w))) lent out at (holding lent regs′ pos′ ring′) out′ r
-  given-bytes lent line saved {n} e s d h = rw (good n e, ← first n e, ← s (take n bytes)) (brought lent d h)
+      → Brought (savedOf saved (take n bytes)) (ports .regs) (ports .pos) (ports .ring) regs′ pos′ ring′ out at out′ r → r ≤ at + 4096
+      → Answers (asksWith digits (λ w. restore (givenIn line w))) ports out at (holding ports regs′ pos′ ring′) out′ r
+  given-bytes ports line saved {n} e s d h = rw (good n e, ← first n e, ← s (take n bytes)) (brought ports d h)
 
 -- ---- The port that was saved last
 
-module _ (lent : Lent) {n : ℕ} {out out′ : List ℕ} {at r : ℕ} (e : n ≡ lent .count) where
+module _ (ports : Ports) {n : ℕ} {out out′ : List ℕ} {at r : ℕ} (e : n ≡ ports .count) where
   pub none-kept : capacity < n → Puts out at (text "?\n") out′ r → r ≤ at + 4096
-      → Answers (cond (leb (lent .count) capacity) (restore (keptIn lent)) nothing) lent out at lent out′ r
-  none-kept l p h = rw (lt-leb (lent .count) capacity (rw (← e) l)) (unknown lent p h)
+      → Answers (cond (leb (ports .count) capacity) (restore (keptIn ports)) nothing) ports out at ports out′ r
+  none-kept l p h = rw (lt-leb (ports .count) capacity (rw (← e) l)) (unknown ports p h)
 
   pub some-kept : {regs′ pos′ ring′ : List ℕ} → n ≤ capacity
-      → Brought (savedOf (lent .saved) (take (n - 0) (drop 0 (lent .waiting)))) (lent .regs) (lent .pos) (lent .ring) regs′ pos′ ring′ out at out′ r → r ≤ at + 4096
-      → Answers (cond (leb (lent .count) capacity) (restore (keptIn lent)) nothing) lent out at (holding lent regs′ pos′ ring′) out′ r
+      → Brought (savedOf (ports .saved) (take (n - 0) (drop 0 (ports .waiting)))) (ports .regs) (ports .pos) (ports .ring) regs′ pos′ ring′ out at out′ r → r ≤ at + 4096
+      → Answers (cond (leb (ports .count) capacity) (restore (keptIn ports)) nothing) ports out at (holding ports regs′ pos′ ring′) out′ r
   some-kept l b h =
-      let z : n - 0 ≡ lent .count = omega arith in
-      rw (le-leb (lent .count) capacity (rw (← e) l)) (brought lent (rw z at b) h)
+      let z : n - 0 ≡ ports .count = omega arith in
+      rw (le-leb (ports .count) capacity (rw (← e) l)) (brought ports (rw z at b) h)
 
 -- ---- One line about saved states
 
@@ -134,89 +134,89 @@ from-first waiting zero h l = none-from waiting
 from-first waiting (suc n) h l =
     one-from waiting n (omega arith) ∙ rw (from-first waiting n (omega arith) (omega arith)) (sym (take-suc waiting n 0 (omega arith)))
 
-module _ (line : List ℕ) (lent : Lent) {out out′ : List ℕ} {at r : ℕ} where
+module _ (line : List ℕ) (ports : Ports) {out out′ : List ℕ} {at r : ℕ} where
   pub by-save : {saved′ waiting′ o₁ : List ℕ} {count′ n a : ℕ} → fitsOf (text "save") line ≡ true
-      → Saves (lent .regs) (lent .pos) (lent .ring) (lent .waiting) saved′ waiting′ count′ → length waiting′ ≡ capacity → n ≡ min count′ 64 → Puts out at (text "save") o₁ a
+      → Saves (ports .regs) (ports .pos) (ports .ring) (ports .waiting) saved′ waiting′ count′ → length waiting′ ≡ capacity → n ≡ min count′ 64 → Puts out at (text "save") o₁ a
       → Puts o₁ a (portSays (savedOf saved′ (queue capacity waiting′ 0 n))) out′ r → r ≤ at + 4096
-      → Answers (asksSaved lent line) lent out at (record { regs = lent .regs; pos = lent .pos; ring = lent .ring; saved = saved′; waiting = waiting′; count = count′ }) out′ r
+      → Answers (asksSaved ports line) ports out at (record { regs = ports .regs; pos = ports .pos; ring = ports .ring; saved = saved′; waiting = waiting′; count = count′ }) out′ r
   unfolding asksSaved
   by-save {saved′} {waiting′} {count′ = count′} {n = n} f s l e p q h =
-      let few : count′ ≤ capacity = rw (s .number) (memory-fits (lent .regs) (lent .pos) (lent .ring)) in
+      let few : count′ ≤ capacity = rw (s .number) (memory-fits (ports .regs) (ports .pos) (ports .ring)) in
       let same : n ≡ count′ = omega arith in
-      let port : savedOf saved′ (queue capacity waiting′ 0 n) ≡ portIn lent = rw (same, from-first waiting′ count′ few (rw l few)) (s .holds) in
+      let port : savedOf saved′ (queue capacity waiting′ 0 n) ≡ portIn ports = rw (same, from-first waiting′ count′ few (rw l few)) (s .holds) in
       rw f (record { reached = false; tells = tt; said = rw (← port) (both p q); port = refl; kept = (few, s .holds); short = h })
 
-module _ (line : List ℕ) (lent : Lent) {out out′ : List ℕ} {at r : ℕ} (no-save : fitsOf (text "save") line ≡ false) where
-  pub by-kept : {lent′ : Lent} → fitsOf (text "restore") line ≡ true
-      → Answers (cond (leb (lent .count) capacity) (restore (keptIn lent)) nothing) lent out at lent′ out′ r → Answers (asksSaved lent line) lent out at lent′ out′ r
+module _ (line : List ℕ) (ports : Ports) {out out′ : List ℕ} {at r : ℕ} (no-save : fitsOf (text "save") line ≡ false) where
+  pub by-kept : {ports′ : Ports} → fitsOf (text "restore") line ≡ true
+      → Answers (cond (leb (ports .count) capacity) (restore (keptIn ports)) nothing) ports out at ports′ out′ r → Answers (asksSaved ports line) ports out at ports′ out′ r
   unfolding asksSaved
   by-kept f b = rw (no-save, f) b
 
-module _ (line : List ℕ) (lent : Lent) {out out′ : List ℕ} {at r : ℕ} (no-save : fitsOf (text "save") line ≡ false) (no-kept : fitsOf (text "restore") line ≡ false) where
+module _ (line : List ℕ) (ports : Ports) {out out′ : List ℕ} {at r : ℕ} (no-save : fitsOf (text "save") line ≡ false) (no-kept : fitsOf (text "restore") line ≡ false) where
   pub by-registers : (saved : List ℕ) {regs′ pos′ ring′ : List ℕ} → fitsOf (text "restore DD DD DD DD DD DD DD DD DD -") line ≡ true
-      → ((w : List ℕ) → savedOf saved w ≡ givenIn line w) → Brought (savedOf saved []) (lent .regs) (lent .pos) (lent .ring) regs′ pos′ ring′ out at out′ r → r ≤ at + 4096
-      → Answers (asksSaved lent line) lent out at (holding lent regs′ pos′ ring′) out′ r
+      → ((w : List ℕ) → savedOf saved w ≡ givenIn line w) → Brought (savedOf saved []) (ports .regs) (ports .pos) (ports .ring) regs′ pos′ ring′ out at out′ r → r ≤ at + 4096
+      → Answers (asksSaved ports line) ports out at (holding ports regs′ pos′ ring′) out′ r
   unfolding asksSaved
-  by-registers saved f s b h = rw (no-save, no-kept, f, ← s []) (brought lent b h)
+  by-registers saved f s b h = rw (no-save, no-kept, f, ← s []) (brought ports b h)
 
   module _ (no-registers : fitsOf (text "restore DD DD DD DD DD DD DD DD DD -") line ≡ false) where
-    pub by-given : {lent′ : Lent} → beginsLike (text "restore DD DD DD DD DD DD DD DD DD ") line ≡ true
-        → Answers (asksWith (drop 35 line) (λ w. restore (givenIn line w))) lent out at lent′ out′ r → Answers (asksSaved lent line) lent out at lent′ out′ r
+    pub by-given : {ports′ : Ports} → beginsLike (text "restore DD DD DD DD DD DD DD DD DD ") line ≡ true
+        → Answers (asksWith (drop 35 line) (λ w. restore (givenIn line w))) ports out at ports′ out′ r → Answers (asksSaved ports line) ports out at ports′ out′ r
     unfolding asksSaved
     by-given f b = rw (no-save, no-kept, no-registers, f) b
 
     pub by-nothing : beginsLike (text "restore DD DD DD DD DD DD DD DD DD ") line ≡ false → Puts out at (text "?\n") out′ r → r ≤ at + 4096
-        → Answers (asksSaved lent line) lent out at lent out′ r
+        → Answers (asksSaved ports line) ports out at ports out′ r
     unfolding asksSaved
-    by-nothing f p h = rw (no-save, no-kept, no-registers, f) (unknown lent p h)
+    by-nothing f p h = rw (no-save, no-kept, no-registers, f) (unknown ports p h)
 
 -- ---- One line
 
-module _ (line : List ℕ) (lent : Lent) {out out′ : List ℕ} {at r : ℕ} where
+module _ (line : List ℕ) (ports : Ports) {out out′ : List ℕ} {at r : ℕ} where
   pub by-write : {offset value : ℕ} {regs′ pos′ ring′ : List ℕ} → fitsOf (text "w OO VV") line ≡ true → offset ≡ byteAt line 2 → value ≡ byteAt line 5
-      → DidWrite offset value (lent .regs) (lent .pos) (lent .ring) regs′ pos′ ring′ out at out′ r → r ≤ at + 4096
-      → Answers (asks lent line) lent out at (holding lent regs′ pos′ ring′) out′ r
+      → DidWrite offset value (ports .regs) (ports .pos) (ports .ring) regs′ pos′ ring′ out at out′ r → r ≤ at + 4096
+      → Answers (asks ports line) ports out at (holding ports regs′ pos′ ring′) out′ r
   unfolding asks
   by-write f o v d h =
       rw (f, ← o, ← v) (record { reached = false; tells = tt; said = d .says; port = d .holds; kept = (refl, refl, refl); short = h })
 
-module _ (line : List ℕ) (lent : Lent) {out out′ : List ℕ} {at r : ℕ} (no-write : fitsOf (text "w OO VV") line ≡ false) where
+module _ (line : List ℕ) (ports : Ports) {out out′ : List ℕ} {at r : ℕ} (no-write : fitsOf (text "w OO VV") line ≡ false) where
   pub by-read : {offset : ℕ} {regs′ pos′ : List ℕ} → fitsOf (text "r OO") line ≡ true → offset ≡ byteAt line 2
-      → DidRead offset (lent .regs) (lent .pos) (lent .ring) regs′ pos′ (lent .ring) out at out′ r → r ≤ at + 4096
-      → Answers (asks lent line) lent out at (holding lent regs′ pos′ (lent .ring)) out′ r
+      → DidRead offset (ports .regs) (ports .pos) (ports .ring) regs′ pos′ (ports .ring) out at out′ r → r ≤ at + 4096
+      → Answers (asks ports line) ports out at (holding ports regs′ pos′ (ports .ring)) out′ r
   unfolding asks
   by-read f o d h =
       rw (no-write, f, ← o) (record { reached = false; tells = tt; said = d .says; port = d .holds; kept = (refl, refl, refl); short = h })
 
-module _ (line : List ℕ) (lent : Lent) {out out′ : List ℕ} {at r : ℕ} (no-write : fitsOf (text "w OO VV") line ≡ false) (no-read : fitsOf (text "r OO") line ≡ false) where
-  pub by-no-input : {regs′ pos′ ring′ : List ℕ} → fitsOf (text "b") line ≡ true → DidInput [] (lent .regs) (lent .pos) (lent .ring) regs′ pos′ ring′ out at out′ r
-      → r ≤ at + 4096 → Answers (asks lent line) lent out at (holding lent regs′ pos′ ring′) out′ r
+module _ (line : List ℕ) (ports : Ports) {out out′ : List ℕ} {at r : ℕ} (no-write : fitsOf (text "w OO VV") line ≡ false) (no-read : fitsOf (text "r OO") line ≡ false) where
+  pub by-no-input : {regs′ pos′ ring′ : List ℕ} → fitsOf (text "b") line ≡ true → DidInput [] (ports .regs) (ports .pos) (ports .ring) regs′ pos′ ring′ out at out′ r
+      → r ≤ at + 4096 → Answers (asks ports line) ports out at (holding ports regs′ pos′ ring′) out′ r
   unfolding asks
-  by-no-input f d h = rw (no-write, no-read, f) (entered lent d h)
+  by-no-input f d h = rw (no-write, no-read, f) (entered ports d h)
 
   module _ (no-empty : fitsOf (text "b") line ≡ false) where
-    pub by-input : {lent′ : Lent} → beginsLike (text "b ") line ≡ true → Answers (asksWith (drop 2 line) input) lent out at lent′ out′ r
-        → Answers (asks lent line) lent out at lent′ out′ r
+    pub by-input : {ports′ : Ports} → beginsLike (text "b ") line ≡ true → Answers (asksWith (drop 2 line) input) ports out at ports′ out′ r
+        → Answers (asks ports line) ports out at ports′ out′ r
     unfolding asks
     by-input f b = rw (no-write, no-read, no-empty, f) b
 
     module _ (no-input : beginsLike (text "b ") line ≡ false) where
-      pub by-room : fitsOf (text "room") line ≡ true → Puts out at (roomSays (roomOf (portIn lent))) out′ r → r ≤ at + 4096
-          → Answers (asks lent line) lent out at lent out′ r
+      pub by-room : fitsOf (text "room") line ≡ true → Puts out at (roomSays (roomOf (portIn ports))) out′ r → r ≤ at + 4096
+          → Answers (asks ports line) ports out at ports out′ r
       unfolding asks
       by-room f p h =
           rw (no-write, no-read, no-empty, no-input, f)
           (record { reached = false; tells = tt; said = p; port = refl; kept = (refl, refl, refl); short = h })
 
       module _ (no-room : fitsOf (text "room") line ≡ false) where
-        pub by-state : fitsOf (text "state") line ≡ true → Puts out at (text "state" ++ portSays (portIn lent)) out′ r → r ≤ at + 4096
-            → Answers (asks lent line) lent out at lent out′ r
+        pub by-state : fitsOf (text "state") line ≡ true → Puts out at (text "state" ++ portSays (portIn ports)) out′ r → r ≤ at + 4096
+            → Answers (asks ports line) ports out at ports out′ r
         unfolding asks
         by-state f p h =
             rw (no-write, no-read, no-empty, no-input, no-room, f)
             (record { reached = false; tells = tt; said = p; port = refl; kept = (refl, refl, refl); short = h })
 
-        pub by-saved : {lent′ : Lent} → fitsOf (text "state") line ≡ false → Answers (asksSaved lent line) lent out at lent′ out′ r
-            → Answers (asks lent line) lent out at lent′ out′ r
+        pub by-saved : {ports′ : Ports} → fitsOf (text "state") line ≡ false → Answers (asksSaved ports line) ports out at ports′ out′ r
+            → Answers (asks ports line) ports out at ports′ out′ r
         unfolding asks
         by-saved f b = rw (no-write, no-read, no-empty, no-input, no-room, f) b

@@ -29,7 +29,7 @@ use Rattle.words.specs.Put.{Puts}
 use Rattle.words.specs.Text.{text}
 use Rattle.words.proofs.Putting.{both, instead}
 use Rattle.serial_lines.specs.Inside.{sentPart, takenPart}
-use Rattle.serial_lines.specs.Answers.{Did, DidRead, DidWrite, DidInput, Brought, givenIn, raisesSay, readSays, sentSays, takenSays, bytesSay, registersSay, waitingSay, portSays}
+use Rattle.serial_lines.specs.Answers.{Did, DidRead, DidWrite, DidInput, Brought, givenIn, raisesSay, readSays, sentSays, takenSays, bytesSay, nextByte, registersSay, waitingSay, portSays}
 
 -- ---- The parts of a word
 
@@ -174,6 +174,20 @@ module _ (ring : List ℕ) (start : ℕ) {n : ℕ} {out o₁ o₂ out′ : List 
       → Puts out at (waitingSay (queue capacity ring start n)) out′ r
   some-wait h e s t u =
       rw (queue-length capacity ring start n, some-in ring start n h) (both (both p q) (both (both s (all-there ring start e t)) u))
+
+in-threes : (a b c d e f g h i : List ℕ) → (a ++ b ++ c) ++ (d ++ e ++ f) ++ (g ++ h ++ i) ≡ a ++ b ++ c ++ d ++ e ++ f ++ g ++ h ++ i
+in-threes a b c d e f g h i = simp append-assoc
+
+-- the nine registers, in threes
+pub nine-said : (regs : List ℕ) {out o₁ o₂ out′ : List ℕ} {at a b r : ℕ}
+    → Puts out at (nextByte (getD regs 0 0) ++ nextByte (getD regs 8 0) ++ nextByte (getD regs 1 0)) o₁ a
+    → Puts o₁ a (nextByte (getD regs 2 0) ++ nextByte (getD regs 3 0) ++ nextByte (getD regs 5 0)) o₂ b
+    → Puts o₂ b (nextByte (getD regs 4 0) ++ nextByte (getD regs 6 0) ++ nextByte (getD regs 7 0)) out′ r
+    → (waiting : List ℕ) → Puts out at (registersSay (savedOf regs waiting)) out′ r
+unfolding savedOf portOf
+nine-said regs p q s waiting =
+    let said : ℕ → List ℕ = λ (i : ℕ). nextByte (getD regs i 0) in
+    instead (in-threes (said 0) (said 8) (said 1) (said 2) (said 3) (said 5) (said 4) (said 6) (said 7)) (both (both p q) s)
 
 -- a port: its registers, whatever waits, and what does
 pub port-said : (regs waiting : List ℕ) {out o₁ out′ : List ℕ} {at a r : ℕ} → ((w : List ℕ) → Puts out at (registersSay (savedOf regs w)) o₁ a)

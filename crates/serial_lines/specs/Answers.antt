@@ -17,25 +17,17 @@ use Rattle.words.specs.Hex.{byteAt, digitsOf, bytesOf, areBytes}
 use Rattle.words.specs.Pattern.{fitsOf, beginsLike}
 use Rattle.words.specs.Put.{Puts}
 use Rattle.words.specs.Text.{text}
+use Rattle.serial_lines.specs.declared.Ports.{Ports}
 
--- What the caller lends: the port; the registers and the bytes of the one that was saved last, and how many bytes of it wait. A number above the
--- capacity says that none was saved.
-pub record Lent : Type 0 where
-  pub regs : List ℕ
-  pub pos : List ℕ
-  pub ring : List ℕ
-  pub saved : List ℕ
-  pub waiting : List ℕ
-  pub count : ℕ
+abbrev pub portsOf : List ℕ → List ℕ → List ℕ → List ℕ → List ℕ → ℕ → Ports
+portsOf regs pos ring saved waiting count = record { regs = regs; pos = pos; ring = ring; saved = saved; waiting = waiting; count = count }
 
-abbrev pub lends : List ℕ → List ℕ → List ℕ → List ℕ → List ℕ → ℕ → Lent
-lends regs pos ring saved waiting count = record { regs = regs; pos = pos; ring = ring; saved = saved; waiting = waiting; count = count }
+abbrev pub portIn : Ports → Port
+portIn ports = portOf (ports .regs) (ports .pos) (ports .ring)
 
-abbrev pub portIn : Lent → Port
-portIn lent = portOf (lent .regs) (lent .pos) (lent .ring)
-
-abbrev pub keptIn : Lent → Port
-keptIn lent = savedOf (lent .saved) (take (lent .count) (lent .waiting))
+-- A number above the capacity says that none was saved.
+abbrev pub keptIn : Ports → Port
+keptIn ports = savedOf (ports .saved) (take (ports .count) (ports .waiting))
 
 -- ---- What a line asks for
 
@@ -70,22 +62,22 @@ givenIn line bytes = record {
 }
 
 -- `restore` alone asks for the port that was saved last.
-unfoldable pub asksSaved : Lent → List ℕ → Asks
-asksSaved lent line =
+unfoldable pub asksSaved : Ports → List ℕ → Asks
+asksSaved ports line =
     cond (fitsOf (text "save") line) save
-    (cond (fitsOf (text "restore") line) (cond (leb (lent .count) capacity) (restore (keptIn lent)) nothing)
+    (cond (fitsOf (text "restore") line) (cond (leb (ports .count) capacity) (restore (keptIn ports)) nothing)
     (cond (fitsOf (text "restore DD DD DD DD DD DD DD DD DD -") line) (restore (givenIn line []))
     (cond (beginsLike (text "restore DD DD DD DD DD DD DD DD DD ") line) (asksWith (drop 35 line) (λ bytes. restore (givenIn line bytes))) nothing)))
 
-unfoldable pub asks : Lent → List ℕ → Asks
-asks lent line =
+unfoldable pub asks : Ports → List ℕ → Asks
+asks ports line =
     cond (fitsOf (text "w OO VV") line) (write (byteAt line 2) (byteAt line 5))
     (cond (fitsOf (text "r OO") line) (read (byteAt line 2))
     (cond (fitsOf (text "b") line) (input [])
     (cond (beginsLike (text "b ") line) (asksWith (drop 2 line) input)
     (cond (fitsOf (text "room") line) showRoom
     (cond (fitsOf (text "state") line) showState
-    (asksSaved lent line))))))
+    (asksSaved ports line))))))
 
 -- ---- What is said
 
@@ -182,9 +174,9 @@ isSave (restore saved) = false
 isSave nothing = false
 
 -- After `save` the port is kept, and after every other line what was kept before.
-abbrev pub Keeps : Bool → Lent → Lent → Type 0
-Keeps true lent lent′ = (lent′ .count ≤ capacity) × (keptIn lent′ ≡ portIn lent)
-Keeps false lent lent′ = (lent′ .saved ≡ lent .saved) × (lent′ .waiting ≡ lent .waiting) × (lent′ .count ≡ lent .count)
+abbrev pub Keeps : Bool → Ports → Ports → Type 0
+Keeps true ports ports′ = (ports′ .count ≤ capacity) × (keptIn ports′ ≡ portIn ports)
+Keeps false ports ports′ = (ports′ .saved ≡ ports .saved) × (ports′ .waiting ≡ ports .waiting) × (ports′ .count ≡ ports .count)
 
 -- A call was answered: what was said, and the port that the memory holds.
 pub record Did (said : List ℕ) (port : Port) (regs′ pos′ ring′ out : List ℕ) (at : ℕ) (out′ : List ℕ) (r : ℕ) : Type 0 where
@@ -210,14 +202,14 @@ pub record Brought (saved : Port) (regs pos ring regs′ pos′ ring′ out : Li
   pub did : Did (restoreSays (restoreOf (portOf regs pos ring) saved) reached) (restoreOf (portOf regs pos ring) saved .port) regs′ pos′ ring′ out at out′ r
 
 -- What a line asks for was answered.
-pub record Answers (asked : Asks) (lent : Lent) (out : List ℕ) (at : ℕ) (lent′ : Lent) (out′ : List ℕ) (r : ℕ) : Type 0 where
+pub record Answers (asked : Asks) (ports : Ports) (out : List ℕ) (at : ℕ) (ports′ : Ports) (out′ : List ℕ) (r : ℕ) : Type 0 where
   pub reached : Bool
   pub tells : Tells asked reached
-  pub said : Puts out at (says asked (portIn lent) reached) out′ r
-  pub port : portIn lent′ ≡ portThen asked (portIn lent)
-  pub kept : Keeps (isSave asked) lent lent′
+  pub said : Puts out at (says asked (portIn ports) reached) out′ r
+  pub port : portIn ports′ ≡ portThen asked (portIn ports)
+  pub kept : Keeps (isSave asked) ports ports′
   pub short : r ≤ at + 4096
 
 -- A line was answered, given what it asks for.
-abbrev pub AnswersLine : (Lent → List ℕ → Asks) → List ℕ → Lent → List ℕ → ℕ → Lent → List ℕ → ℕ → Type 0
-AnswersLine asking line lent out at lent′ out′ r = Answers (asking lent line) lent out at lent′ out′ r
+abbrev pub AnswersLine : (Ports → List ℕ → Asks) → List ℕ → Ports → List ℕ → ℕ → Ports → List ℕ → ℕ → Type 0
+AnswersLine asking line ports out at ports′ out′ r = Answers (asking ports line) ports out at ports′ out′ r

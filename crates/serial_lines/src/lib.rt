@@ -18,6 +18,7 @@ use words::put::put_byte;
 use words::put::unknown;
 ghost use Prim.Native.Nat.{ℕ, _+_, _≤_, _<_, min};
 ghost use mathlib.Core.Path.{_≡_};
+ghost use mathlib.Core.Bool.{false};
 ghost use mathlib.Core.List.{List, _++_};
 ghost use lib.ListN.{drop};
 ghost use Rattle.serial.specs.Calls.{Begins};
@@ -27,12 +28,12 @@ ghost use Rattle.serial.specs.Ring.{queue};
 ghost use Rattle.serial_saved.specs.Saved.{savedOf};
 ghost use Rattle.words.specs.Put.{Puts};
 ghost use Rattle.words.specs.Text.{text};
-ghost use Rattle.serial_lines.specs.Answers.{Answers, AnswersLine, asksWith, input, DidRead, DidWrite, DidInput, lends, asks, raisesSay, roomSays};
+ghost use Rattle.serial_lines.specs.Answers.{Answers, AnswersLine, Keeps, asksWith, input, DidRead, DidWrite, DidInput, portsOf, asks, raisesSay, roomSays};
 ghost use Rattle.serial_lines.specs.Inside.{sentPart, takenPart};
 ghost use Rattle.serial_lines.specs.Answers.{nextByte, bytesSay, registersSay, waitingSay, portSays};
 
-// The serial port's state, which the caller lends: its registers, where its waiting bytes start and
-// how many there are, and they.
+// The memory of a serial port: its registers, where its waiting bytes start and how many there are,
+// and they.
 pub type Regs = [u8; 9];
 
 pub type Pos = [u32; 2];
@@ -42,19 +43,84 @@ pub type Ring = [u8; 64];
 // As many bytes may wait.
 const CAPACITY: usize = 64;
 
-// No port was saved yet: more bytes than may wait.
-pub const NONE: u32 = 65;
-
-// Makes the serial port a fresh one.
-pub fn begin(regs: &mut Regs, pos: &mut Pos)
-    ensures { λ r. ⌜ Begins (now (regs .exit)) (now (pos .exit)) ⌝ }
-{
-    serialpost_serial_init(regs, pos);
+// The serial port, in `regs`, `pos` and `ring`, and the one that was saved last: its registers, its
+// waiting bytes, and how many there are, or more than `CAPACITY` where none was saved yet.
+pub struct Ports {
+    pub regs: Regs,
+    pub pos: Pos,
+    pub ring: Ring,
+    pub saved: Regs,
+    pub waiting: Ring,
+    pub count: u32,
 }
 
-// `saved`, `waiting` and `count` are the port that was saved last: its registers, its waiting bytes,
-// and how many there are, or `NONE`.
-pub fn answer(
+// The ports after a line, and how much of `out` is used.
+pub struct Said {
+    pub ports: Ports,
+    pub put: usize,
+}
+
+// No port was begun and none saved.
+pub fn start() -> Ports
+    ensures { λ r. ⌜ capacity < r .count ⌝ }
+{
+    Ports {
+        regs: [0; 9],
+        pos: [0; 2],
+        ring: [0; 64],
+        saved: [0; 9],
+        waiting: [0; 64],
+        count: CAPACITY as u32 + 1,
+    }
+}
+
+// Makes the serial port a fresh one, and leaves what was saved.
+pub fn begin(mut ports: Ports) -> Ports
+    ensures { λ r. ⌜ Begins (r .regs) (r .pos) ⌝ }
+    ensures { λ r. ⌜ Keeps false ports r ⌝ }
+{
+    let mut regs = ports.regs;
+    let mut pos = ports.pos;
+    serialpost_serial_init(&mut regs, &mut pos);
+    ports.regs = regs;
+    ports.pos = pos;
+    ports
+}
+
+// The port is taken out of `ports` once for each line: the functions below change it in its place.
+pub fn answer(line: &[u8], ports: Ports, out: &mut Block, at: usize) -> Said
+    requires { ⌜ at + 4096 ≤ 65536 ⌝ }
+    ensures { λ r. ⌜ AnswersLine asks (now (line .entry)) ports (now (out .entry)) at (r .ports) (now (out .exit)) (r .put) ⌝ }
+{
+    let mut regs = ports.regs;
+    let mut pos = ports.pos;
+    let mut ring = ports.ring;
+    let mut saved = ports.saved;
+    let mut waiting = ports.waiting;
+    let mut count = ports.count;
+    let put = answer_in(
+        line,
+        &mut regs,
+        &mut pos,
+        &mut ring,
+        &mut saved,
+        &mut waiting,
+        &mut count,
+        out,
+        at,
+    );
+    let ports = Ports {
+        regs,
+        pos,
+        ring,
+        saved,
+        waiting,
+        count,
+    };
+    Said { ports, put }
+}
+
+fn answer_in(
     line: &[u8],
     regs: &mut Regs,
     pos: &mut Pos,
@@ -66,7 +132,7 @@ pub fn answer(
     at: usize,
 ) -> usize
     requires { ⌜ at + 4096 ≤ 65536 ⌝ }
-    ensures { λ r. ⌜ AnswersLine asks (now (line .entry)) (lends (now (regs .entry)) (now (pos .entry)) (now (ring .entry)) (now (saved .entry)) (now (waiting .entry)) (now (count .entry))) (now (out .entry)) at (lends (now (regs .exit)) (now (pos .exit)) (now (ring .exit)) (now (saved .exit)) (now (waiting .exit)) (now (count .exit))) (now (out .exit)) r ⌝ }
+    ensures { λ r. ⌜ AnswersLine asks (now (line .entry)) (portsOf (now (regs .entry)) (now (pos .entry)) (now (ring .entry)) (now (saved .entry)) (now (waiting .entry)) (now (count .entry))) (now (out .entry)) at (portsOf (now (regs .exit)) (now (pos .exit)) (now (ring .exit)) (now (saved .exit)) (now (waiting .exit)) (now (count .exit))) (now (out .exit)) r ⌝ }
     ensures { λ r. ⌜ r ≤ at + 4096 ⌝ }
 {
     if fits(line, b"w OO VV") {
@@ -160,7 +226,7 @@ fn input_of(
     at: usize,
 ) -> usize
     requires { ⌜ at + 4096 ≤ 65536 ⌝ }
-    ensures { λ r. ⌜ ((saved waiting : List ℕ) (count : ℕ) → Answers (asksWith (drop 2 (now (line .entry))) input) (lends (now (regs .entry)) (now (pos .entry)) (now (ring .entry)) saved waiting count) (now (out .entry)) at (lends (now (regs .exit)) (now (pos .exit)) (now (ring .exit)) saved waiting count) (now (out .exit)) r) ⌝ }
+    ensures { λ r. ⌜ ((saved waiting : List ℕ) (count : ℕ) → Answers (asksWith (drop 2 (now (line .entry))) input) (portsOf (now (regs .entry)) (now (pos .entry)) (now (ring .entry)) saved waiting count) (now (out .entry)) at (portsOf (now (regs .exit)) (now (pos .exit)) (now (ring .exit)) saved waiting count) (now (out .exit)) r) ⌝ }
     ensures { λ r. ⌜ r ≤ at + 4096 ⌝ }
 {
     let mut bytes = io::buffer();
@@ -237,15 +303,20 @@ fn put_regs(out: &mut Block, at: usize, regs: &Regs) -> usize
     ensures { λ r. ⌜ ((waiting : List ℕ) → Puts (now (out .entry)) at (registersSay (savedOf (now (regs .entry)) waiting)) (now (out .exit)) r) ⌝ }
     ensures { λ r. ⌜ r ≤ at + 27 ⌝ }
 {
-    let a = put_next(out, at, regs[0]);
-    let b = put_next(out, a, regs[8]);
-    let c = put_next(out, b, regs[1]);
-    let d = put_next(out, c, regs[2]);
-    let e = put_next(out, d, regs[3]);
-    let f = put_next(out, e, regs[5]);
-    let g = put_next(out, f, regs[4]);
-    let h = put_next(out, g, regs[6]);
-    put_next(out, h, regs[7])
+    let a = put_three(out, at, regs[0], regs[8], regs[1]);
+    let b = put_three(out, a, regs[2], regs[3], regs[5]);
+    put_three(out, b, regs[4], regs[6], regs[7])
+}
+
+// Puts three bytes, each behind a space.
+fn put_three(out: &mut Block, at: usize, x: u8, y: u8, z: u8) -> usize
+    requires { ⌜ at + 9 ≤ 65536 ⌝ }
+    ensures { λ r. ⌜ Puts (now (out .entry)) at (nextByte x ++ nextByte y ++ nextByte z) (now (out .exit)) r ⌝ }
+    ensures { λ r. ⌜ r ≤ at + 9 ⌝ }
+{
+    let a = put_next(out, at, x);
+    let b = put_next(out, a, y);
+    put_next(out, b, z)
 }
 
 // Puts a space and the digits of a byte.

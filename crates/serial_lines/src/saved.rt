@@ -26,7 +26,7 @@ ghost use lib.Dec.{leb};
 ghost use lib.ListN.{take, drop};
 ghost use Rattle.serial.specs.Layout.{capacity};
 ghost use Rattle.serial_saved.specs.Saved.{savedOf};
-ghost use Rattle.serial_lines.specs.Answers.{Answers, AnswersLine, Brought, lends, asksSaved, asksWith, givenIn, restore, nothing};
+ghost use Rattle.serial_lines.specs.Answers.{Answers, AnswersLine, Brought, portsOf, asksSaved, asksWith, givenIn, restore, nothing};
 
 pub fn answer(
     line: &[u8],
@@ -40,7 +40,7 @@ pub fn answer(
     at: usize,
 ) -> usize
     requires { ⌜ at + 4096 ≤ 65536 ⌝ }
-    ensures { λ r. ⌜ AnswersLine asksSaved (now (line .entry)) (lends (now (regs .entry)) (now (pos .entry)) (now (ring .entry)) (now (saved .entry)) (now (waiting .entry)) (now (count .entry))) (now (out .entry)) at (lends (now (regs .exit)) (now (pos .exit)) (now (ring .exit)) (now (saved .exit)) (now (waiting .exit)) (now (count .exit))) (now (out .exit)) r ⌝ }
+    ensures { λ r. ⌜ AnswersLine asksSaved (now (line .entry)) (portsOf (now (regs .entry)) (now (pos .entry)) (now (ring .entry)) (now (saved .entry)) (now (waiting .entry)) (now (count .entry))) (now (out .entry)) at (portsOf (now (regs .exit)) (now (pos .exit)) (now (ring .exit)) (now (saved .exit)) (now (waiting .exit)) (now (count .exit))) (now (out .exit)) r ⌝ }
     ensures { λ r. ⌜ r ≤ at + 4096 ⌝ }
 {
     if fits(line, b"save") {
@@ -74,7 +74,7 @@ fn restore_kept(
     at: usize,
 ) -> usize
     requires { ⌜ at + 4096 ≤ 65536 ⌝ }
-    ensures { λ r. ⌜ Answers (cond (leb count capacity) (restore (savedOf (now (saved .entry)) (take count (now (waiting .entry))))) nothing) (lends (now (regs .entry)) (now (pos .entry)) (now (ring .entry)) (now (saved .entry)) (now (waiting .entry)) count) (now (out .entry)) at (lends (now (regs .exit)) (now (pos .exit)) (now (ring .exit)) (now (saved .entry)) (now (waiting .entry)) count) (now (out .exit)) r ⌝ }
+    ensures { λ r. ⌜ Answers (cond (leb count capacity) (restore (savedOf (now (saved .entry)) (take count (now (waiting .entry))))) nothing) (portsOf (now (regs .entry)) (now (pos .entry)) (now (ring .entry)) (now (saved .entry)) (now (waiting .entry)) count) (now (out .entry)) at (portsOf (now (regs .exit)) (now (pos .exit)) (now (ring .exit)) (now (saved .entry)) (now (waiting .entry)) count) (now (out .exit)) r ⌝ }
     ensures { λ r. ⌜ r ≤ at + 4096 ⌝ }
 {
     let n = wide(count);
@@ -95,7 +95,7 @@ fn restore_given(
     at: usize,
 ) -> usize
     requires { ⌜ at + 4096 ≤ 65536 ⌝ }
-    ensures { λ r. ⌜ ((saved waiting : List ℕ) (count : ℕ) → Answers (asksWith (drop 35 (now (line .entry))) (λ bytes. restore (givenIn (now (line .entry)) bytes))) (lends (now (regs .entry)) (now (pos .entry)) (now (ring .entry)) saved waiting count) (now (out .entry)) at (lends (now (regs .exit)) (now (pos .exit)) (now (ring .exit)) saved waiting count) (now (out .exit)) r) ⌝ }
+    ensures { λ r. ⌜ ((saved waiting : List ℕ) (count : ℕ) → Answers (asksWith (drop 35 (now (line .entry))) (λ bytes. restore (givenIn (now (line .entry)) bytes))) (portsOf (now (regs .entry)) (now (pos .entry)) (now (ring .entry)) saved waiting count) (now (out .entry)) at (portsOf (now (regs .exit)) (now (pos .exit)) (now (ring .exit)) saved waiting count) (now (out .exit)) r) ⌝ }
     ensures { λ r. ⌜ r ≤ at + 4096 ⌝ }
 {
     let mut bytes = io::buffer();

@@ -1,7 +1,7 @@
 -- Each answer is a law of `Answering`.
 -- Assumes nothing.
 use mathlib.Core.Path.{sym, _∙_}
-use Rattle.clock_lines.proofs.Answering.{by-read, by-write, by-time, by-no-time, by-state, by-saved}
+use Rattle.clock_lines.proofs.Answering.{by-read, by-write, by-time, by-state, by-saved}
 use borrow.Author.Needs.{needs}
 use Rattle.clock_lines.proofs.answer.Statement.{statement}
 use Rattle.clock_lines.proofs.answer.Tie as tie
@@ -22,8 +22,7 @@ read-requires : tie.Need-read-requires
 read-requires c κs = search needs
 
 returns : tie.Need-returns
-returns c =
-    by-read _ _ (sym (c .before .before .before .before .before .before .before .fits2 .ensures) ∙ c .before .before .before .before .before .before .if1 .taken) (c .before .before .before .before .offset-in .ensures) (c .before .before .bytes-in .ensures) (c .read .ensures .0) (search needs)
+returns c = by-read _ (sym (c .before .before .before .before .before .fits2 .ensures) ∙ c .before .before .before .before .if1 .taken) (c .before .before .before .offset-in .ensures) (c .before .before .bytes-in .ensures) (c .read .ensures)
 
 slice-aggregate-fits-2 : tie.Need-slice-aggregate-fits-2
 slice-aggregate-fits-2 c = search needs
@@ -41,8 +40,7 @@ write-requires : tie.Need-write-requires
 write-requires c κs = search needs
 
 returns-2 : tie.Need-returns-2
-returns-2 c =
-    by-write _ _ (sym (c .before .before .before .before .before .before .before .before .before .before .fits2 .ensures) ∙ c .before .before .before .before .before .before .before .before .before .if1 .left) (sym (c .before .before .before .before .before .before .before .fits3 .ensures) ∙ c .before .before .before .before .before .before .if2 .taken) (c .before .before .before .before .offset-in2 .ensures) (c .before .before .bytes-in2 .ensures) (c .write .ensures .0) (search needs)
+returns-2 c = by-write _ (sym (c .before .before .before .before .before .before .before .before .fits2 .ensures) ∙ c .before .before .before .before .before .before .before .if1 .left) (sym (c .before .before .before .before .before .fits3 .ensures) ∙ c .before .before .before .before .if2 .taken) (c .before .before .before .offset-in2 .ensures) (c .before .before .bytes-in2 .ensures) (c .write .ensures)
 
 slice-aggregate-begins : tie.Need-slice-aggregate-begins
 slice-aggregate-begins c = search needs
@@ -50,31 +48,11 @@ slice-aggregate-begins c = search needs
 begins-requires : tie.Need-begins-requires
 begins-requires c κs = search needs
 
-parse-from-requires : tie.Need-parse-from-requires
-parse-from-requires c κs = search needs
-
-enum-known-now : tie.Need-enum-known-now
-enum-known-now c = search needs
-
-enum-told : tie.Need-enum-told
-enum-told c = search needs
-
-unknown-requires : tie.Need-unknown-requires
-unknown-requires c κs = search needs
+set-time-requires : tie.Need-set-time-requires
+set-time-requires c κs = search needs
 
 returns-3 : tie.Need-returns-3
-returns-3 c =
-    by-no-time _ _ (sym (c .before .before .before .before .before .before .before .before .before .before .before .before .fits2 .ensures) ∙ c .before .before .before .before .before .before .before .before .before .before .before .if1 .left) (sym (c .before .before .before .before .before .before .before .before .before .fits3 .ensures) ∙ c .before .before .before .before .before .before .before .before .if2 .left) (sym (c .before .before .before .before .before .before .begins .ensures) ∙ c .before .before .before .before .before .if3 .taken) (sym (c .before .before .enum-told .given .1) ∙ c .before .before .before .before .parse-from .ensures) (c .unknown .ensures) (search needs)
-
-slice-aggregate-put : tie.Need-slice-aggregate-put
-slice-aggregate-put c = search needs
-
-put-requires : tie.Need-put-requires
-put-requires c κs = search needs
-
-returns-4 : tie.Need-returns-4
-returns-4 c =
-    by-time _ _ (sym (c .before .before .before .before .before .before .before .before .before .before .before .before .before .before .fits2 .ensures) ∙ c .before .before .before .before .before .before .before .before .before .before .before .before .before .if1 .left) (sym (c .before .before .before .before .before .before .before .before .before .before .before .fits3 .ensures) ∙ c .before .before .before .before .before .before .before .before .before .before .if2 .left) _ (sym (c .before .before .before .before .before .before .before .before .begins .ensures) ∙ c .before .before .before .before .before .before .before .if3 .taken) (sym (c .before .before .before .before .now .given .1) ∙ c .before .before .before .before .before .before .parse-from .ensures) (c .put .ensures) (search needs)
+returns-3 c = by-time _ (sym (c .before .before .before .before .before .before .before .before .before .fits2 .ensures) ∙ c .before .before .before .before .before .before .before .before .if1 .left) (sym (c .before .before .before .before .before .before .fits3 .ensures) ∙ c .before .before .before .before .before .if2 .left) (sym (c .before .before .before .begins .ensures) ∙ c .before .before .if3 .taken) (c .set-time .ensures)
 
 slice-aggregate-fits-3 : tie.Need-slice-aggregate-fits-3
 slice-aggregate-fits-3 c = search needs
@@ -82,22 +60,17 @@ slice-aggregate-fits-3 c = search needs
 fits-requires-3 : tie.Need-fits-requires-3
 fits-requires-3 c κs = search needs
 
-slice-aggregate-state : tie.Need-slice-aggregate-state
-slice-aggregate-state c = search needs
+show-requires : tie.Need-show-requires
+show-requires c κs = search needs
 
-state-requires : tie.Need-state-requires
-state-requires c κs = search needs
-
-returns-5 : tie.Need-returns-5
-returns-5 c =
-    by-state _ _ (sym (c .before .before .before .before .before .before .before .before .before .before .before .before .before .before .fits2 .ensures) ∙ c .before .before .before .before .before .before .before .before .before .before .before .before .before .if1 .left) (sym (c .before .before .before .before .before .before .before .before .before .before .before .fits3 .ensures) ∙ c .before .before .before .before .before .before .before .before .before .before .if2 .left) (sym (c .before .before .before .before .before .before .before .before .begins .ensures) ∙ c .before .before .before .before .before .before .before .if3 .left) (sym (c .before .before .before .before .before .fits4 .ensures) ∙ c .before .before .before .before .if4 .taken) (c .state .ensures .0) (search needs)
+returns-4 : tie.Need-returns-4
+returns-4 c = by-state _ (sym (c .before .before .before .before .before .before .before .before .before .before .before .before .fits2 .ensures) ∙ c .before .before .before .before .before .before .before .before .before .before .before .if1 .left) (sym (c .before .before .before .before .before .before .before .before .before .fits3 .ensures) ∙ c .before .before .before .before .before .before .before .before .if2 .left) (sym (c .before .before .before .before .before .before .begins .ensures) ∙ c .before .before .before .before .before .if3 .left) (sym (c .before .before .before .fits4 .ensures) ∙ c .before .before .if4 .taken) (c .show .ensures)
 
 answer-requires : tie.Need-answer-requires
 answer-requires c κs = search needs
 
-returns-6 : tie.Need-returns-6
-returns-6 c =
-    by-saved _ _ (sym (c .before .before .before .before .before .before .before .before .before .before .before .before .before .before .before .fits2 .ensures) ∙ c .before .before .before .before .before .before .before .before .before .before .before .before .before .before .if1 .left) (sym (c .before .before .before .before .before .before .before .before .before .before .before .before .fits3 .ensures) ∙ c .before .before .before .before .before .before .before .before .before .before .before .if2 .left) (sym (c .before .before .before .before .before .before .before .before .before .begins .ensures) ∙ c .before .before .before .before .before .before .before .before .if3 .left) (sym (c .before .before .before .before .before .before .fits4 .ensures) ∙ c .before .before .before .before .before .if4 .left) (c .answer .ensures .0 _)
+returns-5 : tie.Need-returns-5
+returns-5 c = by-saved _ (sym (c .before .before .before .before .before .before .before .before .before .before .before .before .fits2 .ensures) ∙ c .before .before .before .before .before .before .before .before .before .before .before .if1 .left) (sym (c .before .before .before .before .before .before .before .before .before .fits3 .ensures) ∙ c .before .before .before .before .before .before .before .before .if2 .left) (sym (c .before .before .before .before .before .before .begins .ensures) ∙ c .before .before .before .before .before .if3 .left) (sym (c .before .before .before .fits4 .ensures) ∙ c .before .before .if4 .left) (c .answer .ensures)
 
 pub answer-spec : {M : Type 1} → statement M
 answer-spec =
@@ -117,18 +90,11 @@ answer-spec =
     returns-2
     slice-aggregate-begins
     begins-requires
-    parse-from-requires
-    enum-known-now
-    enum-told
-    unknown-requires
+    set-time-requires
     returns-3
-    slice-aggregate-put
-    put-requires
-    returns-4
     slice-aggregate-fits-3
     fits-requires-3
-    slice-aggregate-state
-    state-requires
-    returns-5
+    show-requires
+    returns-4
     answer-requires
-    returns-6)
+    returns-5)

@@ -1,6 +1,6 @@
--- Each answer is a law of `Answering`.
+-- A law of `Answering`.
 -- Assumes nothing.
-use Rattle.clock_lines.proofs.Answering.{reads-valid, reads-invalid}
+use Rattle.clock_lines.proofs.Answering.{reads}
 use borrow.Author.Needs.{needs}
 use Rattle.clock_lines.proofs.read.Statement.{statement}
 use Rattle.clock_lines.proofs.read.Tie as tie
@@ -8,46 +8,16 @@ use Rattle.clock_lines.proofs.read.Tie as tie
 serialpost-clock-read-requires : tie.Need-serialpost-clock-read-requires
 serialpost-clock-read-requires c κs = search needs
 
-slice-aggregate-put : tie.Need-slice-aggregate-put
-slice-aggregate-put c = search needs
-
-put-requires : tie.Need-put-requires
-put-requires c κs = search needs
-
-put-bytes-requires : tie.Need-put-bytes-requires
-put-bytes-requires c κs = search needs
-
-slice-aggregate-put-2 : tie.Need-slice-aggregate-put-2
-slice-aggregate-put-2 c = search needs
-
-put-requires-2 : tie.Need-put-requires-2
-put-requires-2 c κs = search needs
+put-read-requires : tie.Need-put-read-requires
+put-read-requires c κs = search needs
 
 returns : tie.Need-returns
-returns c =
-    (reads-valid (c .before .before .before .before .before .before .before .before .before .serialpost-clock-read .ensures) (c .before .before .before .if1 .taken) (c .before .before .before .before .before .before .put .ensures) (c .before .before .before .before .put-bytes .ensures .0) (c .put2 .ensures), search needs)
-
-slice-aggregate-put-3 : tie.Need-slice-aggregate-put-3
-slice-aggregate-put-3 c = search needs
-
-put-requires-3 : tie.Need-put-requires-3
-put-requires-3 c κs = search needs
-
-returns-2 : tie.Need-returns-2
-returns-2 c =
-    (reads-invalid (c .before .before .before .before .before .before .before .before .before .serialpost-clock-read .ensures) (c .before .before .before .if1 .left) (c .before .before .before .before .before .before .put .ensures) (c .before .before .before .before .put-bytes .ensures .0) (c .put3 .ensures), search needs)
+returns c = reads _ _ (c .before .before .serialpost-clock-read .ensures) (c .put-read .ensures .0) (search needs)
 
 pub read-spec : {M : Type 1} → statement M
 read-spec =
     tie.close
     (tie.spec
     serialpost-clock-read-requires
-    slice-aggregate-put
-    put-requires
-    put-bytes-requires
-    slice-aggregate-put-2
-    put-requires-2
-    returns
-    slice-aggregate-put-3
-    put-requires-3
-    returns-2)
+    put-read-requires
+    returns)

@@ -1,6 +1,6 @@
--- Each answer is a law of `Answering`.
+-- A law of `Answering`.
 -- Assumes nothing.
-use Rattle.clock_lines.proofs.Answering.{writes-valid, writes-invalid}
+use Rattle.clock_lines.proofs.Answering.{writes}
 use borrow.Author.Needs.{needs}
 use Rattle.clock_lines.proofs.write.Statement.{statement}
 use Rattle.clock_lines.proofs.write.Tie as tie
@@ -8,32 +8,16 @@ use Rattle.clock_lines.proofs.write.Tie as tie
 serialpost-clock-write-requires : tie.Need-serialpost-clock-write-requires
 serialpost-clock-write-requires c κs = search needs
 
-slice-aggregate-put : tie.Need-slice-aggregate-put
-slice-aggregate-put c = search needs
-
-put-requires : tie.Need-put-requires
-put-requires c κs = search needs
+put-write-requires : tie.Need-put-write-requires
+put-write-requires c κs = search needs
 
 returns : tie.Need-returns
-returns c = (writes-valid (c .before .before .before .before .serialpost-clock-write .ensures) (c .before .before .before .if1 .taken) (c .put .ensures), search needs)
-
-slice-aggregate-put-2 : tie.Need-slice-aggregate-put-2
-slice-aggregate-put-2 c = search needs
-
-put-requires-2 : tie.Need-put-requires-2
-put-requires-2 c κs = search needs
-
-returns-2 : tie.Need-returns-2
-returns-2 c = (writes-invalid (c .before .before .before .before .serialpost-clock-write .ensures) (c .before .before .before .if1 .left) (c .put2 .ensures), search needs)
+returns c = writes _ _ _ (c .before .before .serialpost-clock-write .ensures) (c .put-write .ensures .0) (search needs)
 
 pub write-spec : {M : Type 1} → statement M
 write-spec =
     tie.close
     (tie.spec
     serialpost-clock-write-requires
-    slice-aggregate-put
-    put-requires
-    returns
-    slice-aggregate-put-2
-    put-requires-2
-    returns-2)
+    put-write-requires
+    returns)

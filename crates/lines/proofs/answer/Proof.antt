@@ -1,19 +1,20 @@
-use Prim.Native.Nat.{ℕ, _+_, _-_, _≤_, _<_}
-use mathlib.Core.Path.{_≡_, refl}
-use borrow.Author.Needs.{needs}
+-- The place stays sound with each line.
+-- Assumes nothing.
+use Prim.Native.Nat.{ℕ, _-_, _≤_}
+use mathlib.Core.Path.{_≡_}
 use native.Mathlib.Omega.{arith}
 use lib.ListN.{length}
-use Rattle.lines.specs.Lines.{Sound, Answered}
+use Rattle.lines.specs.Lines.{Sound}
+use Rattle.lines.proofs.Going.{goes-on}
+use borrow.Author.Needs.{needs}
 use Rattle.lines.proofs.answer.Statement.{statement}
 use Rattle.lines.proofs.answer.Tie as tie
 
 abbrev Inv-loop : tie.InvT-loop
-Inv-loop held clock₀ time₀ kept₀ keeps₀ regs₀ pos₀ ring₀ saved₀ waiting₀ count₀ out₀ all end ended state₀ clock time kept keeps regs pos ring saved waiting count out state =
-    Sound state × (state .end ≡ end) × (end ≤ length all)
+Inv-loop held out₀ all end state₀ device₀ clocks₀ ports₀ out state device clocks ports = Sound state × (state .end ≡ end) × (end ≤ length all)
 
 abbrev μ-loop : tie.MeasureT-loop
-μ-loop held clock₀ time₀ kept₀ keeps₀ regs₀ pos₀ ring₀ saved₀ waiting₀ count₀ out₀ all end ended state₀ clock time kept keeps regs pos ring saved waiting count out state =
-    end - state .seen
+μ-loop held out₀ all end state₀ device₀ clocks₀ ports₀ out state device clocks ports = end - state .seen
 
 loop-holds : tie.Need-loop-holds Inv-loop μ-loop
 loop-holds c = search needs
@@ -24,26 +25,50 @@ returns c = (search needs, record { all = λ e. let z : _≡_ {A = ℕ} 0 1 = cc
 next-line-requires : tie.Need-next-line-requires Inv-loop μ-loop
 next-line-requires c κs = search needs
 
-sub-answer : tie.Need-sub-answer Inv-loop μ-loop
-sub-answer c = search needs
+sub-line : tie.Need-sub-line Inv-loop μ-loop
+sub-line c = search needs
 
-part-answer-start : tie.Need-part-answer-start Inv-loop μ-loop
-part-answer-start c = search needs
+part-line-start : tie.Need-part-line-start Inv-loop μ-loop
+part-line-start c = search needs
 
-part-answer-end : tie.Need-part-answer-end Inv-loop μ-loop
-part-answer-end c = search needs
+part-line-end : tie.Need-part-line-end Inv-loop μ-loop
+part-line-end c = search needs
 
-answer-requires : tie.Need-answer-requires Inv-loop μ-loop
-answer-requires c κs = search needs
+task-of-requires : tie.Need-task-of-requires Inv-loop μ-loop
+task-of-requires c κs = search needs
+
+enum-told : tie.Need-enum-told Inv-loop μ-loop
+enum-told c = search needs
+
+clock-requires : tie.Need-clock-requires Inv-loop μ-loop
+clock-requires c κs = search needs
 
 loop-less : tie.Need-loop-less Inv-loop μ-loop
 loop-less c = search needs
 
 loop-again : tie.Need-loop-again Inv-loop μ-loop
-loop-again c =
-    let inv = c .before .before .before .before .before .before .before .before .before .before .before .before .before .before .before .before .before .before .loop .inv in
-    let cut = c .before .before .before .before .before .before .before .before .before .before .before .before .before .next-line .ensures in
-    (record { started = cut .started; short = cut .short; searched = cut .searched; held = omega (arith, inv .0 .held, inv .1); waits = c .answer .ensures }, refl, inv .2)
+loop-again c = goes-on (c .before .before .before .before .before .before .before .before .before .before .before .loop .inv) (c .before .before .before .before .before .before .before .next-line .ensures) (omega (arith, c .before .clock .ensures, c .before .before .before .before .before .before .before .before .if2 .left))
+
+enum-told-2 : tie.Need-enum-told-2 Inv-loop μ-loop
+enum-told-2 c = search needs
+
+serial-requires : tie.Need-serial-requires Inv-loop μ-loop
+serial-requires c κs = search needs
+
+loop-less-2 : tie.Need-loop-less-2 Inv-loop μ-loop
+loop-less-2 c = search needs
+
+loop-again-2 : tie.Need-loop-again-2 Inv-loop μ-loop
+loop-again-2 c = goes-on (c .before .before .before .before .before .before .before .before .before .before .before .loop .inv) (c .before .before .before .before .before .before .before .next-line .ensures) (omega (arith, c .before .serial .ensures, c .before .before .before .before .before .before .before .before .if2 .left))
+
+plain-requires : tie.Need-plain-requires Inv-loop μ-loop
+plain-requires c κs = search needs
+
+loop-less-3 : tie.Need-loop-less-3 Inv-loop μ-loop
+loop-less-3 c = search needs
+
+loop-again-3 : tie.Need-loop-again-3 Inv-loop μ-loop
+loop-again-3 c = goes-on (c .before .before .before .before .before .before .before .before .before .loop .inv) (c .before .before .before .before .before .next-line .ensures) (omega (arith, c .plain .ensures, c .before .before .before .before .before .before .if2 .left))
 
 returns-2 : tie.Need-returns-2 Inv-loop μ-loop
 returns-2 c = search needs
@@ -57,10 +82,19 @@ answer-spec =
     loop-holds
     returns
     next-line-requires
-    sub-answer
-    part-answer-start
-    part-answer-end
-    answer-requires
+    sub-line
+    part-line-start
+    part-line-end
+    task-of-requires
+    enum-told
+    clock-requires
     loop-less
     loop-again
+    enum-told-2
+    serial-requires
+    loop-less-2
+    loop-again-2
+    plain-requires
+    loop-less-3
+    loop-again-3
     returns-2)

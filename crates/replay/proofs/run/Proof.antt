@@ -1,19 +1,13 @@
-use Prim.Native.Nat.{_+_, _-_, _≤_, _<_}
-use mathlib.Core.Path.{_≡_}
 use borrow.Author.Needs.{needs}
-use native.Mathlib.Omega.{arith}
-use lib.ListN.{length}
 use Rattle.lines.specs.Lines.{Sound, Answered}
 use Rattle.replay.proofs.run.Statement.{statement}
 use Rattle.replay.proofs.run.Tie as tie
 
 abbrev Inv-loop : tie.InvT-loop
-Inv-loop held₀ clock₀ time₀ kept₀ keeps₀ regs₀ pos₀ ring₀ saved₀ waiting₀ count₀ out₀ state₀ turns₀ held clock time kept keeps regs pos ring saved waiting count out state turns =
-    Sound state × Answered state
+Inv-loop held₀ out₀ turn₀ turns₀ held out turn turns = Sound (turn .state) × Answered (turn .state)
 
 abbrev μ-loop : tie.MeasureT-loop
-μ-loop held₀ clock₀ time₀ kept₀ keeps₀ regs₀ pos₀ ring₀ saved₀ waiting₀ count₀ out₀ state₀ turns₀ held clock time kept keeps regs pos ring saved waiting count out state turns =
-    turns
+μ-loop held₀ out₀ turn₀ turns₀ held out turn turns = turns
 
 start-requires : tie.Need-start-requires Inv-loop μ-loop
 start-requires c κs = search needs

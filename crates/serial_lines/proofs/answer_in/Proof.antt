@@ -3,8 +3,8 @@
 use mathlib.Core.Path.{sym, _∙_}
 use Rattle.serial_lines.proofs.Answering.{by-write, by-read, by-no-input, by-input, by-room, by-state, by-saved}
 use borrow.Author.Needs.{needs}
-use Rattle.serial_lines.proofs.answer.Statement.{statement}
-use Rattle.serial_lines.proofs.answer.Tie as tie
+use Rattle.serial_lines.proofs.answer_in.Statement.{statement}
+use Rattle.serial_lines.proofs.answer_in.Tie as tie
 
 slice-aggregate-fits : tie.Need-slice-aggregate-fits
 slice-aggregate-fits c = search needs
@@ -96,8 +96,8 @@ answer-requires c κs = search needs
 returns-7 : tie.Need-returns-7
 returns-7 c = (by-saved _ _ (sym (c .before .before .before .before .before .before .before .before .before .before .before .before .before .before .before .before .before .before .before .before .before .before .before .before .fits2 .ensures) ∙ c .before .before .before .before .before .before .before .before .before .before .before .before .before .before .before .before .before .before .before .before .before .before .before .if1 .left) (sym (c .before .before .before .before .before .before .before .before .before .before .before .before .before .before .before .before .before .before .before .before .before .fits3 .ensures) ∙ c .before .before .before .before .before .before .before .before .before .before .before .before .before .before .before .before .before .before .before .before .if2 .left) (sym (c .before .before .before .before .before .before .before .before .before .before .before .before .before .before .before .before .before .before .fits4 .ensures) ∙ c .before .before .before .before .before .before .before .before .before .before .before .before .before .before .before .before .before .if3 .left) (sym (c .before .before .before .before .before .before .before .before .before .before .before .before .before .before .before .begins .ensures) ∙ c .before .before .before .before .before .before .before .before .before .before .before .before .before .before .if4 .left) (sym (c .before .before .before .before .before .before .before .before .before .before .before .before .fits5 .ensures) ∙ c .before .before .before .before .before .before .before .before .before .before .before .if5 .left) (sym (c .before .before .before .before .before .before .before .before .before .fits6 .ensures) ∙ c .before .before .before .before .before .before .before .before .if6 .left) (c .answer .ensures .0), search needs)
 
-pub answer-spec : {M : Type 1} → statement M
-answer-spec =
+pub answer-in-spec : {M : Type 1} → statement M
+answer-in-spec =
     tie.close
     (tie.spec
     slice-aggregate-fits
