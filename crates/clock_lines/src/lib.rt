@@ -1,9 +1,6 @@
 // The lines of the clock.
 mod saved;
 
-use clock::serialpost_clock_init;
-use clock::serialpost_clock_read;
-use clock::serialpost_clock_write;
 use words::Block;
 use words::decimal;
 use words::decimal::Number;
@@ -62,7 +59,7 @@ pub fn begin(mut clocks: Clocks) -> Clocks
     ensures { λ r. ⌜ (r .kept ≡ clocks .kept) × (r .keeps ≡ clocks .keeps) ⌝ }
 {
     let mut clock = clocks.clock;
-    serialpost_clock_init(&mut clock);
+    clock::init(&mut clock);
     clocks.clock = clock;
     clocks.time = 0;
     clocks
@@ -111,7 +108,7 @@ fn read(clocks: Clocks, offset: u16, mut bytes: [u8; 4], out: &mut Block, at: us
     ensures { λ r. ⌜ Answers (read offset bytes) clocks (now (out .entry)) at r (now (out .exit)) ⌝ }
 {
     let clock = clocks.clock;
-    let valid = serialpost_clock_read(&clock, offset, clocks.time, &mut bytes);
+    let valid = clock::read(&clock, offset, clocks.time, &mut bytes);
     let put = put_read(out, at, bytes, valid);
     Said { clocks, put }
 }
@@ -147,7 +144,7 @@ fn write(mut clocks: Clocks, offset: u16, bytes: [u8; 4], out: &mut Block, at: u
     ensures { λ r. ⌜ Answers (write offset bytes) clocks (now (out .entry)) at r (now (out .exit)) ⌝ }
 {
     let mut clock = clocks.clock;
-    let valid = serialpost_clock_write(&mut clock, offset, clocks.time, &bytes);
+    let valid = clock::write(&mut clock, offset, clocks.time, &bytes);
     clocks.clock = clock;
     let put = put_write(out, at, valid);
     Said { clocks, put }

@@ -3,8 +3,6 @@ use crate::Clock;
 use crate::Clocks;
 use crate::Said;
 use crate::state;
-use clock_saved::serialpost_clock_restore;
-use clock_saved::serialpost_clock_save;
 use words::Block;
 use words::hex::byte_at;
 use words::pattern::fits;
@@ -42,7 +40,7 @@ fn save(mut clocks: Clocks, out: &mut Block, at: usize) -> Said
 {
     let clock = clocks.clock;
     let mut kept = clocks.kept;
-    serialpost_clock_save(&clock, &mut kept);
+    clock_saved::save(&clock, &mut kept);
     clocks.kept = kept;
     clocks.keeps = true;
     let put = state(b"save", &kept, out, at);
@@ -67,7 +65,7 @@ fn restore(mut clocks: Clocks, saved: &Clock, out: &mut Block, at: usize) -> Sai
     ensures { λ r. ⌜ Answers (restore (now (saved .entry))) clocks (now (out .entry)) at r (now (out .exit)) ⌝ }
 {
     let mut clock = clocks.clock;
-    let reached = serialpost_clock_restore(&mut clock, saved);
+    let reached = clock_saved::restore(&mut clock, saved);
     clocks.clock = clock;
     let put = put_restore(out, at, reached);
     Said { clocks, put }

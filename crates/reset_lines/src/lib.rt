@@ -1,6 +1,4 @@
 // The lines of the reset controller.
-use i8042::serialpost_i8042_read;
-use i8042::serialpost_i8042_write;
 use words::Block;
 use words::hex::byte_at;
 use words::pattern::fits;
@@ -30,7 +28,7 @@ fn write(offset: u8, value: u8, out: &mut Block, at: usize) -> usize
     ensures { λ r. ⌜ Puts (now (out .entry)) at (writeAnswer offset value) (now (out .exit)) r ⌝ }
     ensures { λ r. ⌜ r ≤ at + 4096 ⌝ }
 {
-    if serialpost_i8042_write(offset, value) {
+    if i8042::write(offset, value) {
         return put(out, at, b"w reset\n");
     }
     put(out, at, b"w --\n")
@@ -42,6 +40,6 @@ fn read(offset: u8, out: &mut Block, at: usize) -> usize
     ensures { λ r. ⌜ r ≤ at + 4096 ⌝ }
 {
     let a = put(out, at, b"r ");
-    let b = put_byte(out, a, serialpost_i8042_read(offset));
+    let b = put_byte(out, a, i8042::read(offset));
     put(out, b, b"\n")
 }

@@ -1,11 +1,6 @@
 // The lines of the serial port.
 mod saved;
 
-use serial::serialpost_serial_init;
-use serial::serialpost_serial_input;
-use serial::serialpost_serial_read;
-use serial::serialpost_serial_room;
-use serial::serialpost_serial_write;
 use words::Block;
 use words::decimal::put_decimal;
 use words::hex::Bytes;
@@ -81,7 +76,7 @@ pub fn begin(mut ports: Ports) -> Ports
 {
     let mut regs = ports.regs;
     let mut pos = ports.pos;
-    serialpost_serial_init(&mut regs, &mut pos);
+    serial::init(&mut regs, &mut pos);
     ports.regs = regs;
     ports.pos = pos;
     ports
@@ -169,7 +164,7 @@ fn write(
     ensures { λ r. ⌜ DidWrite offset value (now (regs .entry)) (now (pos .entry)) (now (ring .entry)) (now (regs .exit)) (now (pos .exit)) (now (ring .exit)) (now (out .entry)) at (now (out .exit)) r ⌝ }
     ensures { λ r. ⌜ r ≤ at + 4096 ⌝ }
 {
-    let does = serialpost_serial_write(regs, pos, ring, offset, value);
+    let does = serial::write(regs, pos, ring, offset, value);
     let a = put(out, at, b"w ");
     let b = put_sent(out, a, does % 512);
     put_raises(out, b, does / 512)
@@ -187,7 +182,7 @@ fn read(
     ensures { λ r. ⌜ DidRead offset (now (regs .entry)) (now (pos .entry)) (now (ring .entry)) (now (regs .exit)) (now (pos .exit)) (now (ring .entry)) (now (out .entry)) at (now (out .exit)) r ⌝ }
     ensures { λ r. ⌜ r ≤ at + 4096 ⌝ }
 {
-    let reply = serialpost_serial_read(regs, pos, ring, offset);
+    let reply = serial::read(regs, pos, ring, offset);
     let a = put(out, at, b"r ");
     let b = put_byte(out, a, (reply % 256) as u8);
     put_raises(out, b, reply / 512)
@@ -248,7 +243,7 @@ fn input(
     ensures { λ r. ⌜ DidInput (now (bytes .entry)) (now (regs .entry)) (now (pos .entry)) (now (ring .entry)) (now (regs .exit)) (now (pos .exit)) (now (ring .exit)) (now (out .entry)) at (now (out .exit)) r ⌝ }
     ensures { λ r. ⌜ r ≤ at + 4096 ⌝ }
 {
-    let took = serialpost_serial_input(regs, pos, ring, bytes);
+    let took = serial::input(regs, pos, ring, bytes);
     let a = put(out, at, b"b ");
     let b = put_taken(out, a, took % 0x2_0000);
     put_raises(out, b, took / 0x2_0000)
@@ -272,7 +267,7 @@ fn room(pos: &Pos, out: &mut Block, at: usize) -> usize
     ensures { λ r. ⌜ r ≤ at + 4096 ⌝ }
 {
     let a = put(out, at, b"room ");
-    let b = put_decimal(out, a, serialpost_serial_room(pos));
+    let b = put_decimal(out, a, serial::room(pos));
     put(out, b, b"\n")
 }
 

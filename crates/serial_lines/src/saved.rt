@@ -7,8 +7,6 @@ use crate::capped;
 use crate::put_port;
 use crate::wide;
 use serial::memory;
-use serial_saved::serialpost_serial_restore;
-use serial_saved::serialpost_serial_save;
 use words::Block;
 use words::decimal::put_decimal;
 use words::hex::Bytes;
@@ -44,7 +42,7 @@ pub fn answer(
     ensures { λ r. ⌜ r ≤ at + 4096 ⌝ }
 {
     if fits(line, b"save") {
-        *count = serialpost_serial_save(regs, pos, ring, saved, waiting);
+        *count = serial_saved::save(regs, pos, ring, saved, waiting);
         memory::whole(waiting);
         let a = put(out, at, b"save");
         return put_port(out, a, saved, 0, capped(*count), waiting);
@@ -136,7 +134,7 @@ fn restore(
     ensures { λ r. ⌜ Brought (savedOf (now (saved .entry)) (now (waiting .entry))) (now (regs .entry)) (now (pos .entry)) (now (ring .entry)) (now (regs .exit)) (now (pos .exit)) (now (ring .exit)) (now (out .entry)) at (now (out .exit)) r ⌝ }
     ensures { λ r. ⌜ r ≤ at + 4096 ⌝ }
 {
-    let brought = serialpost_serial_restore(regs, pos, ring, saved, waiting);
+    let brought = serial_saved::restore(regs, pos, ring, saved, waiting);
     if brought == 0x1_0000 {
         return put(out, at, b"restore full\n");
     }

@@ -5,19 +5,19 @@ use borrow.Author.Needs.{needs}
 use Rattle.clock_lines.proofs.read.Statement.{statement}
 use Rattle.clock_lines.proofs.read.Tie as tie
 
-serialpost-clock-read-requires : tie.Need-serialpost-clock-read-requires
-serialpost-clock-read-requires c κs = search needs
+read-requires : tie.Need-read-requires
+read-requires c κs = search needs
 
 put-read-requires : tie.Need-put-read-requires
 put-read-requires c κs = search needs
 
 returns : tie.Need-returns
-returns c = reads _ _ (c .before .before .serialpost-clock-read .ensures) (c .put-read .ensures .0) (search needs)
+returns c = reads _ _ (c .before .before .read .ensures) (c .put-read .ensures .0) (search needs)
 
 pub read-spec : {M : Type 1} → statement M
 read-spec =
     tie.close
     (tie.spec
-    serialpost-clock-read-requires
+    read-requires
     put-read-requires
     returns)

@@ -9,8 +9,8 @@ slice-aggregate-put c = search needs
 put-requires : tie.Need-put-requires
 put-requires c κs = search needs
 
-serialpost-i8042-read-requires : tie.Need-serialpost-i8042-read-requires
-serialpost-i8042-read-requires c κs = search needs
+read-requires : tie.Need-read-requires
+read-requires c κs = search needs
 
 put-byte-requires : tie.Need-put-byte-requires
 put-byte-requires c κs = search needs
@@ -23,7 +23,7 @@ put-requires-2 c κs = search needs
 
 returns : tie.Need-returns
 returns c =
-    (both (both (c .before .before .before .before .before .before .put .ensures) (rw (c .before .before .before .before .serialpost-i8042-read .ensures) at (c .before .before .before .put-byte .ensures .0))) (c .put2 .ensures), search needs)
+    (both (both (c .before .before .before .before .before .before .put .ensures) (rw (c .before .before .before .before .read .ensures) at (c .before .before .before .put-byte .ensures .0))) (c .put2 .ensures), search needs)
 
 pub read-spec : {M : Type 1} → statement M
 read-spec =
@@ -31,7 +31,7 @@ read-spec =
     (tie.spec
     slice-aggregate-put
     put-requires
-    serialpost-i8042-read-requires
+    read-requires
     put-byte-requires
     slice-aggregate-put-2
     put-requires-2

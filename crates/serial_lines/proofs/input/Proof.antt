@@ -5,8 +5,8 @@ use borrow.Author.Needs.{needs}
 use Rattle.serial_lines.proofs.input.Statement.{statement}
 use Rattle.serial_lines.proofs.input.Tie as tie
 
-serialpost-serial-input-requires : tie.Need-serialpost-serial-input-requires
-serialpost-serial-input-requires c κs = search needs
+input-requires : tie.Need-input-requires
+input-requires c κs = search needs
 
 slice-aggregate-put : tie.Need-slice-aggregate-put
 slice-aggregate-put c = search needs
@@ -21,13 +21,13 @@ put-raises-requires : tie.Need-put-raises-requires
 put-raises-requires c κs = search needs
 
 returns : tie.Need-returns
-returns c = (takes _ (c .before .before .before .before .before .before .before .serialpost-serial-input .ensures) (c .before .before .before .before .put .ensures) (c .before .before .put-taken .ensures .0) (c .put-raises .ensures .0), search needs)
+returns c = (takes _ (c .before .before .before .before .before .before .before .input .ensures) (c .before .before .before .before .put .ensures) (c .before .before .put-taken .ensures .0) (c .put-raises .ensures .0), search needs)
 
 pub input-spec : {M : Type 1} → statement M
 input-spec =
     tie.close
     (tie.spec
-    serialpost-serial-input-requires
+    input-requires
     slice-aggregate-put
     put-requires
     put-taken-requires

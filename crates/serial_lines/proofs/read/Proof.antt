@@ -5,8 +5,8 @@ use borrow.Author.Needs.{needs}
 use Rattle.serial_lines.proofs.read.Statement.{statement}
 use Rattle.serial_lines.proofs.read.Tie as tie
 
-serialpost-serial-read-requires : tie.Need-serialpost-serial-read-requires
-serialpost-serial-read-requires c κs = search needs
+read-requires : tie.Need-read-requires
+read-requires c κs = search needs
 
 slice-aggregate-put : tie.Need-slice-aggregate-put
 slice-aggregate-put c = search needs
@@ -24,13 +24,13 @@ put-raises-requires : tie.Need-put-raises-requires
 put-raises-requires c κs = search needs
 
 returns : tie.Need-returns
-returns c = (reads _ (c .before .before .before .before .before .before .before .serialpost-serial-read .ensures) (c .before .before .before .before .put .ensures) (c .before .before .put-byte .ensures .0) (c .put-raises .ensures .0), search needs)
+returns c = (reads _ (c .before .before .before .before .before .before .before .read .ensures) (c .before .before .before .before .put .ensures) (c .before .before .put-byte .ensures .0) (c .put-raises .ensures .0), search needs)
 
 pub read-spec : {M : Type 1} → statement M
 read-spec =
     tie.close
     (tie.spec
-    serialpost-serial-read-requires
+    read-requires
     slice-aggregate-put
     put-requires
     cast-put-byte

@@ -13,8 +13,8 @@ slice-aggregate-put c = search needs
 put-requires : tie.Need-put-requires
 put-requires c κs = search needs
 
-serialpost-serial-room-requires : tie.Need-serialpost-serial-room-requires
-serialpost-serial-room-requires c κs = search needs
+room-requires : tie.Need-room-requires
+room-requires c κs = search needs
 
 put-decimal-requires : tie.Need-put-decimal-requires
 put-decimal-requires c κs = search needs
@@ -26,7 +26,7 @@ put-requires-2 : tie.Need-put-requires-2
 put-requires-2 c κs = search needs
 
 returns : tie.Need-returns
-returns c = (λ regs ring. both (both (c .before .before .before .before .before .before .put .ensures) (instead (ap decimalOf (c .before .before .before .before .serialpost-serial-room .ensures regs ring)) (c .before .before .before .put-decimal .ensures .0))) (c .put2 .ensures), search needs)
+returns c = (λ regs ring. both (both (c .before .before .before .before .before .before .put .ensures) (instead (ap decimalOf (c .before .before .before .before .room .ensures regs ring)) (c .before .before .before .put-decimal .ensures .0))) (c .put2 .ensures), search needs)
 
 pub room-spec : {M : Type 1} → statement M
 room-spec =
@@ -34,7 +34,7 @@ room-spec =
     (tie.spec
     slice-aggregate-put
     put-requires
-    serialpost-serial-room-requires
+    room-requires
     put-decimal-requires
     slice-aggregate-put-2
     put-requires-2

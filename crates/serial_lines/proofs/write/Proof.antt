@@ -5,8 +5,8 @@ use borrow.Author.Needs.{needs}
 use Rattle.serial_lines.proofs.write.Statement.{statement}
 use Rattle.serial_lines.proofs.write.Tie as tie
 
-serialpost-serial-write-requires : tie.Need-serialpost-serial-write-requires
-serialpost-serial-write-requires c κs = search needs
+write-requires : tie.Need-write-requires
+write-requires c κs = search needs
 
 slice-aggregate-put : tie.Need-slice-aggregate-put
 slice-aggregate-put c = search needs
@@ -21,13 +21,13 @@ put-raises-requires : tie.Need-put-raises-requires
 put-raises-requires c κs = search needs
 
 returns : tie.Need-returns
-returns c = (writes _ _ (search needs) (c .before .before .before .before .before .before .before .serialpost-serial-write .ensures) (c .before .before .before .before .put .ensures) (c .before .before .put-sent .ensures .0) (c .put-raises .ensures .0), search needs)
+returns c = (writes _ _ (search needs) (c .before .before .before .before .before .before .before .write .ensures) (c .before .before .before .before .put .ensures) (c .before .before .put-sent .ensures .0) (c .put-raises .ensures .0), search needs)
 
 pub write-spec : {M : Type 1} → statement M
 write-spec =
     tie.close
     (tie.spec
-    serialpost-serial-write-requires
+    write-requires
     slice-aggregate-put
     put-requires
     put-sent-requires

@@ -12,8 +12,8 @@ slice-aggregate-fits c = search needs
 fits-requires : tie.Need-fits-requires
 fits-requires c κs = search needs
 
-serialpost-serial-save-requires : tie.Need-serialpost-serial-save-requires
-serialpost-serial-save-requires c κs = search needs
+save-requires : tie.Need-save-requires
+save-requires c κs = search needs
 
 whole-requires : tie.Need-whole-requires
 whole-requires c κs = search needs
@@ -31,7 +31,7 @@ put-port-requires : tie.Need-put-port-requires
 put-port-requires c κs = search needs
 
 returns : tie.Need-returns
-returns c = (by-save _ _ (sym (c .before .before .before .before .before .before .before .before .before .before .before .before .before .before .before .before .before .before .fits2 .ensures) ∙ c .before .before .before .before .before .before .before .before .before .before .before .before .before .before .before .before .before .if1 .taken) (c .before .before .before .before .before .before .before .before .before .before .before .serialpost-serial-save .ensures) (c .before .before .before .before .before .before .before .before .before .whole .ensures) (c .before .before .capped .ensures .0) (c .before .before .before .before .before .before .put .ensures) (c .put-port .ensures .0) (search needs), search needs)
+returns c = (by-save _ _ (sym (c .before .before .before .before .before .before .before .before .before .before .before .before .before .before .before .before .before .before .fits2 .ensures) ∙ c .before .before .before .before .before .before .before .before .before .before .before .before .before .before .before .before .before .if1 .taken) (c .before .before .before .before .before .before .before .before .before .before .before .save .ensures) (c .before .before .before .before .before .before .before .before .before .whole .ensures) (c .before .before .capped .ensures .0) (c .before .before .before .before .before .before .put .ensures) (c .put-port .ensures .0) (search needs), search needs)
 
 slice-aggregate-fits-2 : tie.Need-slice-aggregate-fits-2
 slice-aggregate-fits-2 c = search needs
@@ -87,7 +87,7 @@ answer-spec =
     (tie.spec
     slice-aggregate-fits
     fits-requires
-    serialpost-serial-save-requires
+    save-requires
     whole-requires
     slice-aggregate-put
     put-requires
