@@ -70,16 +70,24 @@ pub fn start() -> Ports
 }
 
 // Makes the serial port a fresh one, and leaves what was saved.
-pub fn begin(mut ports: Ports) -> Ports
+pub fn begin(ports: Ports) -> Ports
     ensures { λ r. ⌜ Begins (r .regs) (r .pos) ⌝ }
     ensures { λ r. ⌜ Keeps false ports r ⌝ }
 {
     let mut regs = ports.regs;
     let mut pos = ports.pos;
+    let ring = ports.ring;
+    let saved = ports.saved;
+    let waiting = ports.waiting;
     serial::init(&mut regs, &mut pos);
-    ports.regs = regs;
-    ports.pos = pos;
-    ports
+    Ports {
+        regs,
+        pos,
+        ring,
+        saved,
+        waiting,
+        count: ports.count,
+    }
 }
 
 // The port is taken out of `ports` once for each line: the functions below change it in its place.
