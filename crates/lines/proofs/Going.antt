@@ -3,9 +3,9 @@
 use Prim.Native.Nat.{ℕ, _≤_}
 use mathlib.Core.Path.{_≡_}
 use native.Mathlib.Omega.{arith}
-use Rattle.lines.specs.Lines.{Sound, Cuts}
-use Rattle.lines.specs.declared.State.{State}
-use Rattle.lines.specs.declared.cut.Cut.{Cut}
+use Rattle.pieces.specs.Pieces.{Sound, Cuts}
+use Rattle.pieces.specs.declared.State.{State}
+use Rattle.pieces.specs.declared.cut.Cut.{Cut}
 
 abbrev next : State → Cut → ℕ → State
 next s r put = record { from = r .from; seen = r .seen; end = s .end; put = put; ended = s .ended; passes = r .passes; full = s .full }

@@ -1,6 +1,6 @@
 // The current device, and the line that is handed to it.
-use crate::cut::Kind;
 use clock_lines::Clocks;
+use pieces::cut::Kind;
 use serial_lines::Ports;
 use words::Block;
 use words::pattern::fits;

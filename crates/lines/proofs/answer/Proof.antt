@@ -4,7 +4,7 @@ use Prim.Native.Nat.{ℕ, _-_, _≤_}
 use mathlib.Core.Path.{_≡_}
 use native.Mathlib.Omega.{arith}
 use lib.ListN.{length}
-use Rattle.lines.specs.Lines.{Sound}
+use Rattle.pieces.specs.Pieces.{Sound}
 use Rattle.lines.proofs.Going.{goes-on}
 use borrow.Author.Needs.{needs}
 use Rattle.lines.proofs.answer.Statement.{statement}

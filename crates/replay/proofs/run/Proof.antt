@@ -1,5 +1,5 @@
 use borrow.Author.Needs.{needs}
-use Rattle.lines.specs.Lines.{Sound, Answered}
+use Rattle.pieces.specs.Pieces.{Sound, Answered}
 use Rattle.replay.proofs.run.Statement.{statement}
 use Rattle.replay.proofs.run.Tie as tie
 

@@ -1,6 +1,6 @@
 use borrow.Author.Needs.{needs}
-use Rattle.replay.proofs.exchange.Statement.{statement}
-use Rattle.replay.proofs.exchange.Tie as tie
+use Rattle.exchange.proofs.exchange.Statement.{statement}
+use Rattle.exchange.proofs.exchange.Tie as tie
 
 sub-write : tie.Need-sub-write
 sub-write c = search needs

@@ -3,9 +3,9 @@ use mathlib.Core.Path.{_≡_}
 use borrow.Author.Needs.{needs}
 use native.Mathlib.Omega.{arith}
 use lib.ListN.{length}
-use Rattle.replay.specs.Came.{countOf}
-use Rattle.replay.proofs.read.Statement.{statement}
-use Rattle.replay.proofs.read.Tie as tie
+use Rattle.exchange.specs.Came.{countOf}
+use Rattle.exchange.proofs.read.Statement.{statement}
+use Rattle.exchange.proofs.read.Tie as tie
 
 abbrev Inv-loop : tie.InvT-loop
 Inv-loop space₀ turns₀ t4 space turns = length space ≡ length space₀

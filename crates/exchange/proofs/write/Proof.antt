@@ -3,8 +3,8 @@ use mathlib.Core.Path.{_≡_}
 use borrow.Author.Needs.{needs}
 use native.Mathlib.Omega.{arith}
 use lib.ListN.{length}
-use Rattle.replay.proofs.write.Statement.{statement}
-use Rattle.replay.proofs.write.Tie as tie
+use Rattle.exchange.proofs.write.Statement.{statement}
+use Rattle.exchange.proofs.write.Tie as tie
 
 abbrev Inv-loop : tie.InvT-loop
 Inv-loop waiting count done₀ turns₀ t6 t7 done turns = (done ≤ count) × (count ≡ length waiting)

@@ -1,7 +1,7 @@
 // The next line of what is held.
 ghost use Prim.Native.Nat.{_+_, _≤_, _<_};
 ghost use lib.ListN.{length};
-ghost use Rattle.lines.specs.Lines.{Cuts};
+ghost use Rattle.pieces.specs.Pieces.{Cuts};
 
 // A line of more characters is answered `?` and not looked at.
 const LONGEST: usize = 8192;

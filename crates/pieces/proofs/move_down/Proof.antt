@@ -3,10 +3,10 @@ use mathlib.Core.Path.{_≡_}
 use native.Mathlib.Omega.{arith}
 use borrow.Author.Needs.{needs}
 use lib.ListN.{length}
-use Rattle.lines.proofs.move_down.Statement.{statement}
-use Rattle.lines.proofs.move_down.Tie as tie
-use Rattle.lines.proofs.move_down.Reads as reads
-use Rattle.lines.proofs.move_down.Lts as lts
+use Rattle.pieces.proofs.move_down.Statement.{statement}
+use Rattle.pieces.proofs.move_down.Tie as tie
+use Rattle.pieces.proofs.move_down.Reads as reads
+use Rattle.pieces.proofs.move_down.Lts as lts
 
 abbrev Inv-loop : tie.InvT-loop
 Inv-loop held₀ from count i₀ held i = i ≤ count

@@ -1,15 +1,15 @@
 use mathlib.Core.Path.{ap}
 use native.Mathlib.Omega.{arith}
 use borrow.Author.Needs.{needs}
-use Rattle.replay.specs.Came.{countOf}
-use Rattle.replay.proofs.fill.Statement.{statement}
-use Rattle.replay.proofs.fill.Tie as tie
-use Rattle.replay.proofs.fill.Reads as reads
-use Rattle.replay.proofs.fill.Lts as lts
-use Rattle.lines.proofs.came.Reads as came-reads
-use Rattle.lines.proofs.close.Reads as close-reads
-use Rattle.lines.proofs.settle.Reads as settle-reads
-use Rattle.replay.proofs.read_after.Reads as read-after-reads
+use Rattle.exchange.specs.Came.{countOf}
+use Rattle.exchange.proofs.fill.Statement.{statement}
+use Rattle.exchange.proofs.fill.Tie as tie
+use Rattle.exchange.proofs.fill.Reads as reads
+use Rattle.exchange.proofs.fill.Lts as lts
+use Rattle.pieces.proofs.came.Reads as came-reads
+use Rattle.pieces.proofs.close.Reads as close-reads
+use Rattle.pieces.proofs.settle.Reads as settle-reads
+use Rattle.exchange.proofs.read_after.Reads as read-after-reads
 
 settle-requires : tie.Need-settle-requires
 settle-requires c κs = search needs

@@ -1,7 +1,7 @@
 -- What the contracts of the reading cite. Assumes nothing.
 use Prim.Native.Nat.{ℕ}
-use Rattle.replay.specs.declared.Came.{Came}
-use Rattle.replay.specs.declared.Came.the-variants.{Bytes, End, Failed}
+use Rattle.exchange.specs.declared.Came.{Came}
+use Rattle.exchange.specs.declared.Came.the-variants.{Bytes, End, Failed}
 
 -- how many bytes a read brought
 unfoldable pub countOf : Came → ℕ

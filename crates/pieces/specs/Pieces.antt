@@ -1,9 +1,9 @@
--- What the contracts of `lines` cite: a sound place in the two blocks. Assumes nothing.
+-- Where the reading stands is sound: places within the two blocks.
 use Prim.Native.Nat.{ℕ, _+_, _-_, _≤_, _<_}
 use mathlib.Core.Bool.{false}
 use mathlib.Core.Path.{_≡_}
-use Rattle.lines.specs.declared.State.{State}
-use Rattle.lines.specs.declared.cut.Cut.{Cut}
+use Rattle.pieces.specs.declared.State.{State}
+use Rattle.pieces.specs.declared.cut.Cut.{Cut}
 
 -- The current line starts at `from`, and no newline stands between there and `seen`: so much of it is short. `end` bytes are held, and
 -- `put` bytes wait to be written.
