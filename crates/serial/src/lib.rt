@@ -169,7 +169,7 @@ pub fn input(regs: &mut Regs, pos: &mut Pos, ring: &mut Ring, input: &[u8]) -> u
         return 0;
     }
     let n = ring::count(pos);
-    if n == ring::SIZE {
+    if n == memory::SIZE {
         return REFUSED;
     }
     memory::regs_len(regs);
@@ -184,5 +184,5 @@ pub fn input(regs: &mut Regs, pos: &mut Pos, ring: &mut Ring, input: &[u8]) -> u
 pub fn room(pos: &Pos) -> u32
     ensures { λ r. ⌜ HasRoom (now (pos .entry)) r ⌝ }
 {
-    ring::SIZE - ring::count(pos)
+    memory::SIZE - ring::count(pos)
 }

@@ -15,6 +15,11 @@ pub type Pos = [u32; 4];
 // The places in which bytes wait.
 pub type Ring = [u8; 1024];
 
+pub const PLACES: u32 = 1024;
+
+// How many bytes may wait.
+pub const SIZE: u32 = 64;
+
 // A register lies at its offset; the divisor's two bytes share offsets and lie at the ends.
 pub const DLL: usize = 0;
 

@@ -69,7 +69,7 @@ pub fn write_loop(regs: &mut Regs, pos: &mut Pos, ring: &mut Ring, value: u8) ->
     ensures { λ r. ⌜ Writes (λ p. writeLoop p value) (now (regs .entry)) (now (pos .entry)) (now (ring .entry)) (now (regs .exit)) (now (pos .exit)) (now (ring .exit)) r ⌝ }
 {
     let n = ring::count(pos);
-    if n == ring::SIZE {
+    if n == memory::SIZE {
         return 0;
     }
     memory::regs_len(regs);

@@ -1,8 +1,10 @@
 // The ring: bytes lie one behind another from `start` on and go round at its end.
 use crate::memory;
 use crate::memory::COUNT;
+use crate::memory::PLACES;
 use crate::memory::Pos;
 use crate::memory::Ring;
+use crate::memory::SIZE;
 use crate::memory::START;
 ghost use mathlib.Core.Path.{_≡_};
 ghost use mathlib.Core.List.{[], _∷_};
@@ -11,12 +13,6 @@ ghost use Prim.Native.Nat.{_+_, _-_, _%_, _≤_, _<_, min};
 ghost use lib.ListN.{length, getD, take};
 ghost use Rattle.serial.specs.Inside.{Put, Taken};
 ghost use Rattle.serial.specs.Layout.{size, places, countOf};
-
-// How many bytes may wait.
-pub const SIZE: u32 = 64;
-
-// How many places the ring has.
-pub const PLACES: u32 = 1024;
 
 const ROUND: usize = PLACES as usize;
 

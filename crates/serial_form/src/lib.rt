@@ -1,11 +1,11 @@
 // A saved serial port, its registers and its waiting bytes, as a form of bytes, and back. Nothing of the caller's is trusted: any bytes are read or
 // refused, and a refusal changes nothing.
+use serial::memory;
 use serial::memory::Regs;
 use serial::memory::Ring;
 use serial::memory::are_spares_zero;
 use serial::memory::regs_len;
 use serial::memory::ring_len;
-use serial::ring;
 ghost use mathlib.Core.Path.{_≡_};
 ghost use mathlib.Core.List.{[], _∷_};
 ghost use Prim.Native.Nat.{_+_, _≤_};
@@ -19,7 +19,7 @@ ghost use Rattle.serial_form.specs.Calls.{Encodes, Decodes};
 const CURRENT: usize = 2;
 
 // How many bytes may wait.
-const SIZE: usize = ring::SIZE as usize;
+const SIZE: usize = memory::SIZE as usize;
 
 // ---- Where the parts of a form begin
 

@@ -23,9 +23,9 @@ ghost use Rattle.serial_saved.specs.Calls.{Saves, Restores};
 ghost use Rattle.serial_saved.specs.Inside.{Unrolled, Raised};
 
 // How many bytes may wait.
-const SIZE: usize = ring::SIZE as usize;
+const SIZE: usize = memory::SIZE as usize;
 
-const PLACES: usize = ring::PLACES as usize;
+const PLACES: usize = memory::PLACES as usize;
 
 // All registers, the spare ones too.
 fn copy(from: &Regs, to: &mut Regs)
@@ -42,7 +42,7 @@ fn unroll(ring: &Ring, start: u32, n: u32, waiting: &mut Ring)
     ensures { λ r. ⌜ Unrolled (now (ring .entry)) start n (now (waiting .entry)) (now (waiting .exit)) ⌝ }
 {
     memory::ring_len(waiting);
-    let from = (start % ring::PLACES) as usize;
+    let from = (start % memory::PLACES) as usize;
     let end = n as usize;
     let mut i: usize = 0;
     while i < end {
