@@ -22,7 +22,7 @@ use Rattle.histories.specs.History.{Deed, does, save, restore, bring, St
 
 -- ---- What every standing of a host has, if what comes from outside has it
 
--- what is brought back is there if it fits
+-- what is restored is there if it fits
 chosen : (P : Standing → Type 0) (here saved : Standing) → P here → (fits (saved .port) ≡ true → P saved) → P (backTo here saved)
 unfolding backTo
 chosen P here saved a b = go (fits (saved .port)) refl
@@ -144,7 +144,7 @@ pub reachable-across : (size : ℕ) (p : Port) (ds : List Deed) → Each OfBytes
 reachable-across size p ds e k =
     always (λ s. Reachable size (s .port)) OfBytes (Reachable size) (λ s o b r. step-reachable size (s .port) o b r) (λ q f r. r) p ds e k
 
--- ---- What was done after the port was written down is undone by bringing it back
+-- ---- What was done after the port was saved is undone by restoring it
 
 after-more : (h : Host) (ds more : List Deed) → after h (ds ++ more) ≡ after (after h ds) more
 unfolding after
@@ -179,7 +179,7 @@ take-first zero a b h = refl
 take-first (suc k) [] b h = absurd (omega arith)
 take-first (suc k) (x ∷ a) b h = ap (λ (l : List ℕ). x ∷ l) (take-first k a b (omega arith))
 
--- From a port brought back the first bytes to be delivered are those that waited when it was written down ..
+-- From a restored port the first bytes to be delivered are those that waited when it was saved ..
 pub first-delivered : (p : Port) (os : List Op) (k : ℕ) → k ≤ length (p .waiting) → let d = allDelivered (bookOf p) os (run p os .answers) in
     k ≤ length d → take k d ≡ take k (p .waiting)
 first-delivered p os k w h =
@@ -190,7 +190,7 @@ first-delivered p os k w h =
     ∙ take-first k (p .waiting) (allAccepted b os (r .answers)) w
 
 -- .. so those of them that had been delivered since are delivered again, the same and in the same order. What was accepted since then is not there:
--- from then on `conserved` speaks of what waited when it was written down and of what is accepted afterwards.
+-- from then on `conserved` speaks of what waited when it was saved and of what is accepted afterwards.
 pub delivered-again : (p : Port) (os more : List Op) (k : ℕ) → k ≤ length (p .waiting)
     → let a = allDelivered (bookOf p) os (run p os .answers) in let b = allDelivered (bookOf p) more (run p more .answers) in
     k ≤ length a → k ≤ length b → take k b ≡ take k a

@@ -12,7 +12,7 @@ use Rattle.serial_saved.specs.Saved.{savedOf, Restore, restoreOf}
 use Rattle.serial_saved.specs.Calls.{Saves, Restores}
 use Rattle.histories.specs.History.{Deed, does, save, restore, bring, Host, next}
 
--- A port's memory, and the memory of one that was written down.
+-- A port's memory, and the memory of one that was saved.
 pub record Memory : Type 0 where
   pub regs : List ℕ
   pub pos : List ℕ
@@ -31,7 +31,7 @@ savedIn w = savedOf (w .regs) (w .waiting)
 abbrev pub Brought : Memory → SavedMemory → Memory → ℕ → Type 0
 Brought m w m′ r = Restores (m .regs) (m .pos) (m .ring) (w .regs) (w .waiting) (m′ .regs) (m′ .pos) (m′ .ring) r
 
--- From a memory and what was kept, the last first, to the memory after the deeds; and the word that each call answered. The host brings back only
+-- From a memory and what was kept, the last first, to the memory after the deeds; and the word that each call answered. The host restores only
 -- what it kept.
 pub data Called : Memory → List SavedMemory → List Deed → Memory → List ℕ → Type 0 where
   none : {m : Memory} {kept : List SavedMemory} → Called m kept [] m []
@@ -48,7 +48,7 @@ pub data Called : Memory → List SavedMemory → List Deed → Memory → List 
 -- What a restore's word says of refusal and raises.
 pub record Tells (o : Restore) (r : ℕ) : Type 0 where
   pub refusal : r / 0x1_0000 % 2 ≡ cond (o .refused) 1 0
-  pub raises : r / 0x2_0000 ≡ o .raises
+  pub raises : r / 0x100_0000 ≡ o .raises
 
 -- The words of the deeds by the definition: an operation's is its answer's, that of saving is how many bytes wait.
 abbrev pub Heard : Host → List Deed → List ℕ → Type 0

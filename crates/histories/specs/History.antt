@@ -9,7 +9,7 @@ use Rattle.runs.specs.Run.{Op, Answer, step}
 use Rattle.serial_saved.specs.Saved.{fits}
 
 -- What a host does: an operation of a run; it writes the port down and keeps that; it brings back one that it kept, 0 the last, 1 the one before; it
--- brings back one that was written down elsewhere.
+-- restores one that was saved elsewhere.
 pub data Deed : Type 0 where
   does : Op → Deed
   save : Deed
@@ -31,7 +31,7 @@ goesOn s o =
     let d = step (s .port) o in
     record { port = d .port; origin = s .origin; ops = s .ops ++ o ∷ []; answers = s .answers ++ d .answer ∷ [] }
 
--- What is brought back has its own history. Where more bytes wait than there is room for it is refused, and all stays.
+-- What is restored has its own history. Where more bytes wait than there is room for it is refused, and all stays.
 unfoldable pub backTo : Standing → Standing → Standing
 backTo here saved = cond (fits (saved .port)) saved here
 

@@ -9,7 +9,7 @@ use lib.Dec.{lit≤}
 use Rattle.common.specs.Lists.{some}
 use Rattle.serial.specs.Interrupts.{receivedData, isMarked}
 use Rattle.serial.specs.Port.{Port}
-use Rattle.serial.specs.Layout.{capacity}
+use Rattle.serial.specs.Layout.{size}
 use Rattle.runs.specs.Reachable.{Reachable, neither, onlyTransmitter, onlyReceiver, twoKinds}
 use Rattle.runs.specs.Reachable as reached
 use Rattle.pc16550d.specs.Chip.{Op}
@@ -32,8 +32,8 @@ pub reachable-sound : (size : ℕ) (p : Port) → 16 ≤ size → Reachable size
 reachable-sound size p h r = record { iir = marks-of (r .marks); held = held-of (r .marks); lsr = r .lsr; msr = rw (r .msr); size = rw (r .sized) h }
 
 -- So both sentences hold of every port of the device that some run reaches: its size is 64.
-pub reached-complete : (p : Port) → Reachable capacity p → (o : Op) → AgreesAt p o ⊎ RowAt p o
-reached-complete p r o = complete p (reachable-sound capacity p (lit≤ tt) r) o
+pub reached-complete : (p : Port) → Reachable size p → (o : Op) → AgreesAt p o ⊎ RowAt p o
+reached-complete p r o = complete p (reachable-sound size p (lit≤ tt) r) o
 
-pub reached-real : (p : Port) → Reachable capacity p → (o : Op) → RowAt p o → AgreesAt p o → ⊥
-reached-real p r o = real p (reachable-sound capacity p (lit≤ tt) r) o
+pub reached-real : (p : Port) → Reachable size p → (o : Op) → RowAt p o → AgreesAt p o → ⊥
+reached-real p r o = real p (reachable-sound size p (lit≤ tt) r) o

@@ -11,7 +11,7 @@ use Rattle.common.specs.Lists.{some}
 use Rattle.serial.specs.Interrupts.{receivedData, isEnabled, isMarked, ierStored, mark, unmark, isDue, announce}
 use Rattle.serial.specs.Modem.{isLoop}
 use Rattle.serial.specs.Port.{RBR-THR, IER, DLL, DLM, addressed, Settings, Port, withSettings, becomes, isOpen, inLoop, hasRoom, fresh, readRegister, readOf, receives, writeIer, writeLine, writeRegister, writeOf, inputOf, Input}
-use Rattle.serial.specs.Layout.{capacity}
+use Rattle.serial.specs.Layout.{size}
 use Rattle.runs.specs.Run.{Op, read, write, input, room, step, run, sent, took}
 use Rattle.runs.specs.Told.{receiver, transmitter, enabled, marked, Untold, Hole, identified, read-one, MeetsHole, here, further}
 use Rattle.runs.proofs.Rooms.{outcome, announced-marked, announced-other}
@@ -20,18 +20,18 @@ use Rattle.runs.proofs.Effects.{input-cases}
 use Rattle.runs.proofs.Announcing.{ier-marks}
 
 -- The identification register is read while the byte stays: received data is forgotten.
-pub after-identification : Untold (run (fresh capacity) (write 1 0x01 ∷ input (0x61 ∷ []) ∷ read 2 ∷ []) .port)
+pub after-identification : Untold (run (fresh size) (write 1 0x01 ∷ input (0x61 ∷ []) ∷ read 2 ∷ []) .port)
 unfolding run step addressed readRegister writeRegister writeIer inputOf receives announce isDue mark ierStored isLoop
 after-identification = record { waits = refl; enables = refl; unmarked = refl }
 
 -- One of two bytes is read: received data is unmarked though the other waits.
-pub after-a-read : Untold (run (fresh capacity) (write 1 0x01 ∷ input (0x61 ∷ 0x62 ∷ []) ∷ read 0 ∷ []) .port)
+pub after-a-read : Untold (run (fresh size) (write 1 0x01 ∷ input (0x61 ∷ 0x62 ∷ []) ∷ read 0 ∷ []) .port)
 unfolding run step addressed readRegister writeRegister writeIer inputOf receives announce isDue mark unmark ierStored isLoop
 after-a-read = record { waits = refl; enables = refl; unmarked = refl }
 
 -- Off and on again with the mark kept: the guest was told of the first byte, and is not told anew as received data is enabled again, though another byte came
 -- meanwhile. Two bytes wait and received data is marked.
-pub off-and-on : let r = run (fresh capacity) (write 1 0x01 ∷ input (0x61 ∷ []) ∷ write 1 0x00 ∷ input (0x62 ∷ []) ∷ write 1 0x01 ∷ []) in
+pub off-and-on : let r = run (fresh size) (write 1 0x01 ∷ input (0x61 ∷ []) ∷ write 1 0x00 ∷ input (0x62 ∷ []) ∷ write 1 0x01 ∷ []) in
     (r .answers ≡ sent [] 0 ∷ took 1 1 ∷ sent [] 0 ∷ took 1 0 ∷ sent [] 0 ∷ []) × (r .port .waiting ≡ 0x61 ∷ 0x62 ∷ []) × (marked (r .port) receiver ≡ true)
 unfolding run step addressed readRegister writeRegister writeIer inputOf receives announce isDue mark ierStored isLoop
 off-and-on = (refl, refl, refl)

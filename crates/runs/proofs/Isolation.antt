@@ -11,7 +11,7 @@ use lib.Seq.{getD-set-other}
 use lib.Dec.{lit<}
 use Rattle.serial.specs.Port.{Port}
 use Rattle.serial.specs.Ring.{queue}
-use Rattle.serial.specs.Layout.{capacity, startOf, countOf, portOf}
+use Rattle.serial.specs.Layout.{size, places, startOf, countOf, portOf}
 use Rattle.serial.proofs.Answering.{waiting-length}
 use Rattle.runs.specs.Run.{Op, run}
 use Rattle.runs.specs.Storage.{placeOf, Alike}
@@ -21,30 +21,30 @@ use Rattle.runs.proofs.Conserved.{never-more}
 pub same-answers : (p q : Port) (os : List Op) → p ≡ q → run p os .answers ≡ run q os .answers
 same-answers p q os e = ap (λ (r : Port). run r os .answers) e
 
--- ---- Storage
+-- ---- Memory
 
-queue-alike : (size : ℕ) (ring ring′ : List ℕ) (n start start′ : ℕ)
-    → ((k : ℕ) → k < n → getD ring ((start + k) % size) 0 ≡ getD ring′ ((start′ + k) % size) 0)
-    → queue size ring start n ≡ queue size ring′ start′ n
+queue-alike : (places : ℕ) (ring ring′ : List ℕ) (n start start′ : ℕ)
+    → ((k : ℕ) → k < n → getD ring ((start + k) % places) 0 ≡ getD ring′ ((start′ + k) % places) 0)
+    → queue places ring start n ≡ queue places ring′ start′ n
 unfolding queue
-queue-alike size ring ring′ zero start start′ h = refl
-queue-alike size ring ring′ (suc n) start start′ h =
-    let first : getD ring (start % size) 0 ≡ getD ring′ (start′ % size) 0 = rw (add-zero start, add-zero start′) at (h 0 (omega arith)) in
-    let rest = queue-alike size ring ring′ n (start + 1) (start′ + 1) (λ k l. rw (next start k, next start′ k) at (h (suc k) (omega arith))) in
+queue-alike places ring ring′ zero start start′ h = refl
+queue-alike places ring ring′ (suc n) start start′ h =
+    let first : getD ring (start % places) 0 ≡ getD ring′ (start′ % places) 0 = rw (add-zero start, add-zero start′) at (h 0 (omega arith)) in
+    let rest = queue-alike places ring ring′ n (start + 1) (start′ + 1) (λ k l. rw (next start k, next start′ k) at (h (suc k) (omega arith))) in
     rw (first, rest)
   where
     next : (start k : ℕ) → start + suc k ≡ start + 1 + k
     next start k = omega arith
 
--- From any bytes: never more wait than the capacity.
-pub memory-fits : (regs pos ring : List ℕ) → length (portOf regs pos ring .waiting) ≤ capacity
+-- From any bytes: never more wait than the size.
+pub memory-fits : (regs pos ring : List ℕ) → length (portOf regs pos ring .waiting) ≤ size
 memory-fits regs pos ring = omega (arith, waiting-length regs pos ring)
 
-memory-size : (regs pos ring : List ℕ) → portOf regs pos ring .size ≡ capacity
+memory-size : (regs pos ring : List ℕ) → portOf regs pos ring .size ≡ size
 unfolding portOf
 memory-size regs pos ring = refl
 
-pub memory-never-more : (regs pos ring : List ℕ) (os : List Op) → length (run (portOf regs pos ring) os .port .waiting) ≤ capacity
+pub memory-never-more : (regs pos ring : List ℕ) (os : List Op) → length (run (portOf regs pos ring) os .port .waiting) ≤ size
 memory-never-more regs pos ring os =
     let s = memory-size regs pos ring in
     let f = memory-fits regs pos ring in
@@ -55,7 +55,7 @@ pub alike : (regs pos ring regs′ pos′ ring′ : List ℕ) → Alike regs pos
 unfolding portOf
 alike regs pos ring regs′ pos′ ring′ a =
     let r = a .registers in
-    let q = queue-alike capacity ring ring′ (countOf pos) (startOf pos) (startOf pos′) (a .bytes) in
+    let q = queue-alike places ring ring′ (countOf pos) (startOf pos) (startOf pos′) (a .bytes) in
     rw (r 0 (lit< tt), r 1 (lit< tt), r 2 (lit< tt), r 3 (lit< tt), r 4 (lit< tt), r 5 (lit< tt), r 6 (lit< tt), r 7 (lit< tt), r 8 (lit< tt), q, a .count)
 
 -- .. so they answer every run alike ..

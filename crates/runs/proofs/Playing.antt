@@ -12,6 +12,7 @@ use lib.Seq.{take-suc-set, drop-set-lt, drop-drop}
 use Rattle.common.specs.Lists.{some}
 use Rattle.serial.specs.Port.{Port}
 use Rattle.serial.specs.Layout.{portOf}
+use Rattle.serial.specs.Calls.{SparesKept}
 use Rattle.runs.specs.Run.{Op, step, run}
 use Rattle.runs.specs.Play.{opOf, Decoded, malformed, asks, before, decode, isRun, word, words, Does, Played, Refused, Plays}
 use Rattle.runs.proofs.Decoding.{takesAt, opAt, decode-length, bad-kind-at, short-at, next-at, before-is-run}
@@ -133,6 +134,11 @@ playing-all p ops inputs answers p′ answers′ i from s h os e =
     go [] g = refl
     go (x ∷ l) g = absurd (false≢true g)
 
+-- ---- What is spare stays
+
+pub kept-on : {a b c d e f : List ℕ} → (b ≡ a) × (e ≡ d) → (c ≡ b) × (f ≡ e) → (c ≡ a) × (f ≡ d)
+kept-on first then = (then .0 ∙ first .0, then .1 ∙ first .1)
+
 -- ---- The three answers
 
 module _ (regs pos ring ops inputs answers : List ℕ) where
@@ -144,6 +150,7 @@ module _ (regs pos ring ops inputs answers : List ℕ) where
     plays = λ os e l. absurd (true≢false (sym (ap isRun e) ∙ h));
     too-many = λ os e l. unchanged;
     no-run = λ e. unchanged;
+    sparesKept = (refl, refl);
   }
 
   pub refuses-too-many : length answers < length ops / 3 → Plays regs pos ring ops inputs answers regs pos ring answers false
@@ -151,13 +158,15 @@ module _ (regs pos ring ops inputs answers : List ℕ) where
     plays = λ os e l. absurd (let n = decode-length ops inputs os e in omega arith);
     too-many = λ os e l. unchanged;
     no-run = λ e. unchanged;
+    sparesKept = (refl, refl);
   }
 
   pub plays-all : isRun (decode ops inputs) ≡ true → length ops / 3 ≤ length answers → (regs′ pos′ ring′ answers′ : List ℕ) (i from : ℕ)
-      → Playing (portOf regs pos ring) ops inputs answers (portOf regs′ pos′ ring′) answers′ i from → length ops / 3 ≤ i
+      → Playing (portOf regs pos ring) ops inputs answers (portOf regs′ pos′ ring′) answers′ i from → length ops / 3 ≤ i → SparesKept regs pos regs′ pos′
       → Plays regs pos ring ops inputs answers regs′ pos′ ring′ answers′ true
-  plays-all g fits regs′ pos′ ring′ answers′ i from s h = record {
+  plays-all g fits regs′ pos′ ring′ answers′ i from s h kept = record {
     plays = λ os e l. playing-all (portOf regs pos ring) ops inputs answers (portOf regs′ pos′ ring′) answers′ i from s (omega arith) os e;
     too-many = λ os e l. absurd (let n = decode-length ops inputs os e in omega arith);
     no-run = λ e. absurd (false≢true (sym (ap isRun e) ∙ g));
+    sparesKept = kept;
   }

@@ -8,7 +8,7 @@ use lib.Dec.{eqb, leb}
 use Rattle.common.specs.Lists.{some}
 use Rattle.serial.specs.Port.{Port}
 use Rattle.serial.specs.Layout.{portOf}
-use Rattle.serial.specs.Calls.{sentWord}
+use Rattle.serial.specs.Calls.{refusedBit, oneRaise, sentWord, SparesKept}
 use Rattle.runs.specs.Run.{Op, read, write, input, room, Answer, replied, sent, took, full, hasRoom, step, run}
 
 -- ---- Operations
@@ -64,13 +64,12 @@ allOffered (o ∷ os) = offered o ++ allOffered os
 
 -- ---- Answers
 
--- The word that the call by itself answers: the reply, or the byte sent and 256, and 512 for each raise; the bytes taken, 0x1_0000 for "full", and
--- 0x2_0000 for each raise; the room.
+-- The word that the call by itself answers: the reply, the byte sent, the bytes taken, "full", and the raises; the room.
 abbrev pub word : Answer → ℕ
-word (replied v n) = v + 512 * n
-word (sent s n) = sentWord s + 512 * n
-word (took t n) = t + 0x2_0000 * n
-word (full n) = 0x1_0000 + 0x2_0000 * n
+word (replied v n) = v + oneRaise * n
+word (sent s n) = sentWord s + oneRaise * n
+word (took t n) = t + oneRaise * n
+word (full n) = refusedBit + oneRaise * n
 word (hasRoom r) = r
 
 abbrev pub words : List Answer → List ℕ
@@ -98,12 +97,13 @@ pub record Refused (regs pos ring answers regs′ pos′ ring′ answers′ : Li
   pub ring-stay : ring′ ≡ ring
   pub answers-stay : answers′ ≡ answers
 
--- What is malformed, or asks more than there is room to answer, is refused.
+-- What is malformed, or asks more than there is room to answer, is refused. What is spare in the memory stays.
 pub record Plays (regs pos ring ops inputs answers regs′ pos′ ring′ answers′ : List ℕ) (r : Bool) : Type 0 where
   pub plays : (os : List Op) → decode ops inputs ≡ asks os → length os ≤ length answers
       → Played (portOf regs pos ring) os answers (portOf regs′ pos′ ring′) answers′ r
   pub too-many : (os : List Op) → decode ops inputs ≡ asks os → length answers < length os → Refused regs pos ring answers regs′ pos′ ring′ answers′ r
   pub no-run : decode ops inputs ≡ malformed → Refused regs pos ring answers regs′ pos′ ring′ answers′ r
+  pub sparesKept : SparesKept regs pos regs′ pos′
 
 -- It is a run.
 abbrev pub isRun : Decoded → Bool

@@ -1,8 +1,12 @@
 // A whole run of the serial port in one call: its operations come as bytes, its answers go out as
 // words.
+use serial::memory::Pos;
+use serial::memory::Regs;
+use serial::memory::Ring;
 ghost use mathlib.Core.Path.{_≡_};
 ghost use Prim.Native.Nat.{_≤_};
 ghost use Rattle.serial.specs.Layout.{portOf};
+ghost use Rattle.serial.specs.Calls.{SparesKept};
 ghost use Rattle.runs.specs.Play.{inputBytes, opOf, decode, isRun, Does, Plays};
 
 fn wide(byte: u8) -> usize
@@ -48,15 +52,16 @@ fn is_run(ops: &[u8], inputs: &[u8]) -> bool
 
 // One operation: the word that the call by itself answers.
 fn play_one(
-    regs: &mut [u8; 9],
-    pos: &mut [u32; 2],
-    ring: &mut [u8; 64],
+    regs: &mut Regs,
+    pos: &mut Pos,
+    ring: &mut Ring,
     kind: u8,
     a: u8,
     b: u8,
     bytes: &[u8],
 ) -> u32
     ensures { λ r. ⌜ Does (portOf (now (regs .entry)) (now (pos .entry)) (now (ring .entry))) (opOf kind a b (now (bytes .entry))) (portOf (now (regs .exit)) (now (pos .exit)) (now (ring .exit))) r ⌝ }
+    ensures { λ r. ⌜ SparesKept (now (regs .entry)) (now (pos .entry)) (now (regs .exit)) (now (pos .exit)) ⌝ }
 {
     match kind {
         0 => {
@@ -77,9 +82,9 @@ fn play_one(
 // Plays a whole run on the port and writes one word of answer for each of its operations: true. What
 // is no run, or asks more than there is room to answer, is refused and changes nothing: false.
 pub fn play(
-    regs: &mut [u8; 9],
-    pos: &mut [u32; 2],
-    ring: &mut [u8; 64],
+    regs: &mut Regs,
+    pos: &mut Pos,
+    ring: &mut Ring,
     ops: &[u8],
     inputs: &[u8],
     answers: &mut [u32],

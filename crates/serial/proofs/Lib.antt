@@ -3,6 +3,7 @@ pub mod RingLaws
 pub mod Leaves
 pub mod Addressing
 pub mod Registers
+pub mod Spares
 pub mod Answering
 pub mod Reading
 pub mod Receiving

@@ -4,18 +4,25 @@ use mathlib.Core.Path.{_≡_, refl, sym, _∙_}
 use mathlib.Core.List.{List, [], _∷_}
 use Prim.Native.Nat.{ℕ, zero, suc, _+_, _-_, _%_, _≤_}
 use native.Mathlib.Omega.{arith}
-use lib.ListN.{length, getD, set, length-set}
-use lib.Seq.{getD-set-other, set-getD}
+use lib.ListN.{length, getD, set}
+use lib.Seq.{getD-set-other, set-getD, drop-set-lt}
 use Rattle.serial.specs.Interrupts.{receivedData, unmark, iirRead, iirAfterRead}
 use Rattle.serial.specs.LineStatus.{lsrAfterRead}
 use Rattle.serial.specs.Port.{Port, Register, isOpen, addressed, replies, readRegister, readRbr, readOf}
 use Rattle.serial.specs.Ring.{queue}
-use Rattle.serial.specs.Layout.{capacity, startOf, countOf, portOf}
+use Rattle.serial.specs.Layout.{places, startOf, countOf, portOf, sparePositions}
 use Rattle.serial.specs.Calls.{Reads}
 use Rattle.serial.specs.Inside.{WaitAfterRead, Taken}
 use Rattle.serial.proofs.RingLaws.{queue-length, queue-first}
-use Rattle.serial.proofs.Registers.{marks, receiver, placed}
+use Rattle.serial.proofs.Registers.{Stored, one-stored, then-stored, marks, receiver, placed}
 use Rattle.serial.proofs.Answering.{as-it-was, registers-alone, other-count}
+
+-- IIR and LSR are stored; the positions move on.
+both-stored : (regs : List ℕ) (iir lsr : ℕ) → Stored regs (set (set regs 2 iir) 5 lsr)
+both-stored regs iir lsr = then-stored 5 lsr (omega arith) (one-stored regs 2 iir (omega arith))
+
+moved-spare : (pos : List ℕ) (i m : ℕ) → sparePositions (set (set pos 0 i) 1 m) ≡ sparePositions pos
+moved-spare pos i m = drop-set-lt 2 (set pos 0 i) 1 m (omega arith) ∙ drop-set-lt 2 pos 0 i (omega arith)
 
 module _ (regs pos ring : List ℕ) where
   abbrev p : Port
@@ -46,10 +53,10 @@ module _ (regs pos ring : List ℕ) where
       → Reads (λ q. readOf q offset) regs pos ring regs′ pos′ r
   hands-on offset r a h = rw a h
 
-  module _ (n : length regs ≡ 9) where
+  module _ (n : length regs ≡ 16) where
     pub answers-iir : (offset r : ℕ) → offset ≡ 2 → r ≡ iirRead (p .iir) → Reads (λ q. readOf q offset) regs pos ring (set regs 2 iirAfterRead) pos r
     unfolding readRegister addressed
-    answers-iir offset r e b = rw e (registers-alone n (length-set regs _ _ ∙ n) (marks regs pos ring n iirAfterRead) (rw b (omega arith)))
+    answers-iir offset r e b = rw e (registers-alone n (one-stored regs 2 _ (omega arith)) (marks regs pos ring n iirAfterRead) (rw b (omega arith)))
 
     -- RBR: u is IIR with received data unmarked, k bytes wait
     module _ (u : ℕ) (w : u ≡ unmark (p .iir) receivedData) (k : ℕ) (c : k ≡ countOf pos) {regs′ : List ℕ} where
@@ -62,17 +69,17 @@ module _ (regs pos ring : List ℕ) where
       reads-none z e =
           let none : countOf pos ≡ 0 = sym c ∙ z in
           rw (with-lsr 0 e [] refl)
-          (registers-alone n (length-set (set regs 2 u) _ _ ∙ length-set regs _ _ ∙ n) (receiver regs pos ring n u _ pos ring refl ∙ rw (none, w)) (rw none))
+          (registers-alone n (both-stored regs u _) (receiver regs pos ring n u _ pos ring refl ∙ rw (none, w)) (rw none))
 
       pub reads-first : {pos′ : List ℕ} (b : ℕ) → Taken pos ring k pos′ b → (k ≡ 0 → ⊥) → WaitAfterRead (set regs 2 u) (k - 1) regs′ → Reads readRbr regs pos ring regs′ pos′ b
       unfolding portOf
       reads-first b t z e =
-          let s : ℕ = (startOf pos + 1) % capacity in
-          let left : List ℕ = queue capacity ring s (k - 1) in
-          let there = placed pos s (k - 1) (t .long) (omega arith) in
-          let lies : queue capacity ring (startOf pos) (countOf pos) ≡ b ∷ left = rw (sym c, t .byte) (queue-first capacity ring (startOf pos) k z) in
+          let s : ℕ = (startOf pos + 1) % places in
+          let left : List ℕ = queue places ring s (k - 1) in
+          let there = placed pos (k - 1) (t .long) (omega arith) s in
+          let lies : queue places ring (startOf pos) (countOf pos) ≡ b ∷ left = rw (sym c, t .byte) (queue-first places ring (startOf pos) k z) in
           let holds = receiver regs pos ring n u (lsrAfterRead left (p .lsr)) (set (set pos 0 s) 1 (k - 1)) ring {waiting = left} (rw (there .0, there .1)) in
-          rw (t .moved, with-lsr (k - 1) e left (queue-length capacity ring s (k - 1))) (other-count (holds ∙ rw (lies, w)) refl (λ same. z (omega (arith, there .1))) (rw lies (omega arith)))
+          rw (t .moved, with-lsr (k - 1) e left (queue-length places ring s (k - 1))) (other-count (holds ∙ rw (lies, w)) refl (both-stored regs u _) (moved-spare pos s (k - 1)) (λ same. z (omega (arith, there .1))) (rw lies (omega arith)))
 
     -- RBR where received data is not marked: IIR stays
     pub reads-unmarked : (k b : ℕ) → k ≡ countOf pos → unmark (p .iir) receivedData ≡ p .iir → {regs′ pos′ : List ℕ} → Taken pos ring k pos′ b → (k ≡ 0 → ⊥) → WaitAfterRead regs (k - 1) regs′

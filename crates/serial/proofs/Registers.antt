@@ -1,18 +1,18 @@
--- The lent memory taken apart: nine registers and two positions.
+-- The lent memory taken apart: nine registers and two positions, and behind them what is spare.
 -- Assumes nothing.
-use mathlib.Core.Path.{_≡_, refl, sym, ap, _∙_}
-use mathlib.Core.List.{List, [], _∷_}
-use Prim.Native.Nat.{ℕ, _≤_}
+use mathlib.Core.Path.{_≡_, refl, sym, ap, ap₂, _∙_}
+use mathlib.Core.List.{List, [], _∷_, _++_}
+use Prim.Native.Nat.{ℕ, _≤_, _<_}
 use native.Mathlib.Omega.{arith}
-use lib.ListN.{length, set}
+use lib.ListN.{length, set, length-set}
+use lib.Seq.{drop-set-lt}
 use Rattle.serial.specs.Port.{Port, Settings, fresh, withSettings, withReceiver, putIer}
 use Rattle.serial.specs.Ring.{queue}
-use Rattle.serial.specs.Layout.{capacity, startOf, countOf, portOf}
-use Rattle.serial.specs.Calls.{Begins}
+use Rattle.serial.specs.Layout.{size, places, startOf, countOf, portOf, spareRegisters, sparePositions}
+use Rattle.serial.specs.Calls.{MakesFresh}
 
-nine : (P : List ℕ → Type 0) → ((a b c d e f g h i : ℕ) → P (a ∷ b ∷ c ∷ d ∷ e ∷ f ∷ g ∷ h ∷ i ∷ [])) → (l : List ℕ) → length l ≡ 9 → P l
-nine P t (a ∷ b ∷ c ∷ d ∷ e ∷ f ∷ g ∷ h ∷ i ∷ []) n = t a b c d e f g h i
-nine P t (a ∷ b ∷ c ∷ d ∷ e ∷ f ∷ g ∷ h ∷ i ∷ j ∷ l) n = absurd (omega arith)
+nine : (P : List ℕ → Type 0) → ((a b c d e f g h i : ℕ) (l : List ℕ) → P (a ∷ b ∷ c ∷ d ∷ e ∷ f ∷ g ∷ h ∷ i ∷ l)) → (l : List ℕ) → length l ≡ 16 → P l
+nine P t (a ∷ b ∷ c ∷ d ∷ e ∷ f ∷ g ∷ h ∷ i ∷ l) n = t a b c d e f g h i l
 nine P t [] n = absurd (omega arith)
 nine P t (a ∷ []) n = absurd (omega arith)
 nine P t (a ∷ b ∷ []) n = absurd (omega arith)
@@ -23,11 +23,33 @@ nine P t (a ∷ b ∷ c ∷ d ∷ e ∷ f ∷ []) n = absurd (omega arith)
 nine P t (a ∷ b ∷ c ∷ d ∷ e ∷ f ∷ g ∷ []) n = absurd (omega arith)
 nine P t (a ∷ b ∷ c ∷ d ∷ e ∷ f ∷ g ∷ h ∷ []) n = absurd (omega arith)
 
-two : (P : List ℕ → Type 0) → ((a b : ℕ) → P (a ∷ b ∷ [])) → (l : List ℕ) → length l ≡ 2 → P l
-two P t (a ∷ b ∷ []) n = t a b
-two P t (a ∷ b ∷ c ∷ l) n = absurd (omega arith)
+two : (P : List ℕ → Type 0) → ((a b : ℕ) (l : List ℕ) → P (a ∷ b ∷ l)) → (l : List ℕ) → length l ≡ 4 → P l
+two P t (a ∷ b ∷ l) n = t a b l
 two P t [] n = absurd (omega arith)
 two P t (a ∷ []) n = absurd (omega arith)
+
+seven : (P : List ℕ → Type 0) → ((a b c d e f g : ℕ) → P (a ∷ b ∷ c ∷ d ∷ e ∷ f ∷ g ∷ [])) → (l : List ℕ) → length l ≡ 7 → P l
+seven P t (a ∷ b ∷ c ∷ d ∷ e ∷ f ∷ g ∷ []) n = t a b c d e f g
+seven P t (a ∷ b ∷ c ∷ d ∷ e ∷ f ∷ g ∷ h ∷ l) n = absurd (omega arith)
+seven P t [] n = absurd (omega arith)
+seven P t (a ∷ []) n = absurd (omega arith)
+seven P t (a ∷ b ∷ []) n = absurd (omega arith)
+seven P t (a ∷ b ∷ c ∷ []) n = absurd (omega arith)
+seven P t (a ∷ b ∷ c ∷ d ∷ []) n = absurd (omega arith)
+seven P t (a ∷ b ∷ c ∷ d ∷ e ∷ []) n = absurd (omega arith)
+seven P t (a ∷ b ∷ c ∷ d ∷ e ∷ f ∷ []) n = absurd (omega arith)
+
+-- ---- Registers are stored, and what is spare stays
+
+pub record Stored (regs regs′ : List ℕ) : Type 0 where
+  pub long : length regs′ ≡ length regs
+  pub spare : spareRegisters regs′ ≡ spareRegisters regs
+
+pub one-stored : (regs : List ℕ) (k v : ℕ) → k < 9 → Stored regs (set regs k v)
+one-stored regs k v h = record { long = length-set regs k v; spare = drop-set-lt 9 regs k v h }
+
+pub then-stored : {regs regs₁ : List ℕ} (k v : ℕ) → k < 9 → Stored regs regs₁ → Stored regs (set regs₁ k v)
+then-stored {regs} {regs₁} k v h s = let t = one-stored regs₁ k v h in record { long = t .long ∙ s .long; spare = t .spare ∙ s .spare }
 
 -- ---- The port knows every register
 
@@ -36,58 +58,77 @@ bytes p =
     let s = p .settings in
     s .dll ∷ s .ier ∷ p .iir ∷ s .lcr ∷ s .mcr ∷ p .lsr ∷ p .msr ∷ s .scr ∷ s .dlm ∷ []
 
-bytes-of : (regs pos ring : List ℕ) → length regs ≡ 9 → bytes (portOf regs pos ring) ≡ regs
+bytes-of : (regs pos ring : List ℕ) → length regs ≡ 16 → bytes (portOf regs pos ring) ++ spareRegisters regs ≡ regs
 unfolding portOf bytes
-bytes-of regs pos ring = nine (λ l. bytes (portOf l pos ring) ≡ l) (λ a b c d e f g h i. refl) regs
+bytes-of regs pos ring = nine (λ l. bytes (portOf l pos ring) ++ spareRegisters l ≡ l) (λ a b c d e f g h i l. refl) regs
 
-pub same-registers : (regs pos ring regs′ pos′ ring′ : List ℕ) → length regs ≡ 9 → length regs′ ≡ 9 → portOf regs′ pos′ ring′ ≡ portOf regs pos ring → regs′ ≡ regs
-same-registers regs pos ring regs′ pos′ ring′ n n′ e = sym (bytes-of regs′ pos′ ring′ n′) ∙ ap bytes e ∙ bytes-of regs pos ring n
+pub same-registers : (regs pos ring regs′ pos′ ring′ : List ℕ) → length regs ≡ 16 → Stored regs regs′ → portOf regs′ pos′ ring′ ≡ portOf regs pos ring → regs′ ≡ regs
+same-registers regs pos ring regs′ pos′ ring′ n s e =
+    sym (bytes-of regs′ pos′ ring′ (s .long ∙ n)) ∙ ap₂ _++_ (ap bytes e) (s .spare) ∙ bytes-of regs pos ring n
 
 -- ---- A store to a register is the port with that register
 
-module _ (regs pos ring : List ℕ) (n : length regs ≡ 9) where
+module _ (regs pos ring : List ℕ) (n : length regs ≡ 16) where
   abbrev p : Port
   p = portOf regs pos ring
 
   -- one of the settings, at place k
   pub setting : (k : ℕ) (put : Settings → ℕ → Settings) (v : ℕ)
-      → ((a b c d e f g h i : ℕ) → let l = a ∷ b ∷ c ∷ d ∷ e ∷ f ∷ g ∷ h ∷ i ∷ [] in portOf (set l k v) pos ring ≡ withSettings (portOf l pos ring) (put (portOf l pos ring .settings) v))
+      → ((a b c d e f g h i : ℕ) (rest : List ℕ) → let l = a ∷ b ∷ c ∷ d ∷ e ∷ f ∷ g ∷ h ∷ i ∷ rest in portOf (set l k v) pos ring ≡ withSettings (portOf l pos ring) (put (portOf l pos ring .settings) v))
       → portOf (set regs k v) pos ring ≡ withSettings p (put (p .settings) v)
   setting k put v t = nine (λ l. portOf (set l k v) pos ring ≡ withSettings (portOf l pos ring) (put (portOf l pos ring .settings) v)) t regs n
 
   pub marks : (iir : ℕ) → portOf (set regs 2 iir) pos ring ≡ withReceiver p iir (p .lsr) (p .waiting)
   unfolding portOf
-  marks iir = nine (λ l. let q = portOf l pos ring in portOf (set l 2 iir) pos ring ≡ withReceiver q iir (q .lsr) (q .waiting)) (λ a b c d e f g h i. refl) regs n
+  marks iir = nine (λ l. let q = portOf l pos ring in portOf (set l 2 iir) pos ring ≡ withReceiver q iir (q .lsr) (q .waiting)) (λ a b c d e f g h i l. refl) regs n
 
   -- IER and the marks
   pub enabled : (ier iir : ℕ) → portOf (set (set regs 1 ier) 2 iir) pos ring ≡ withReceiver (withSettings p (putIer (p .settings) ier)) iir (p .lsr) (p .waiting)
   unfolding portOf
   enabled ier iir =
       nine (λ l. let q = portOf l pos ring in portOf (set (set l 1 ier) 2 iir) pos ring ≡ withReceiver (withSettings q (putIer (q .settings) ier)) iir (q .lsr) (q .waiting))
-      (λ a b c d e f g h i. refl) regs n
+      (λ a b c d e f g h i l. refl) regs n
 
-  pub receiver : (iir lsr : ℕ) (pos′ ring′ : List ℕ) {waiting : List ℕ} → queue capacity ring′ (startOf pos′) (countOf pos′) ≡ waiting
+  pub receiver : (iir lsr : ℕ) (pos′ ring′ : List ℕ) {waiting : List ℕ} → queue places ring′ (startOf pos′) (countOf pos′) ≡ waiting
       → portOf (set (set regs 2 iir) 5 lsr) pos′ ring′ ≡ withReceiver p iir lsr waiting
   unfolding portOf
   receiver iir lsr pos′ ring′ {waiting} e =
-      nine (λ l. portOf (set (set l 2 iir) 5 lsr) pos′ ring′ ≡ withReceiver (portOf l pos ring) iir lsr waiting) (λ a b c d e′ f g h i. rw e refl) regs n
+      nine (λ l. portOf (set (set l 2 iir) 5 lsr) pos′ ring′ ≡ withReceiver (portOf l pos ring) iir lsr waiting) (λ a b c d e′ f g h i l. rw e refl) regs n
 
 -- ---- The positions
 
-pub counted : (pos : List ℕ) (k : ℕ) → length pos ≡ 2 → k ≤ capacity → (startOf (set pos 1 k) ≡ startOf pos) × (countOf (set pos 1 k) ≡ k)
-counted pos k n h = two (λ l. (startOf (set l 1 k) ≡ startOf l) × (countOf (set l 1 k) ≡ k)) (λ a b. (refl, omega arith)) pos n
+module _ (pos : List ℕ) (k : ℕ) (n : length pos ≡ 4) (h : k ≤ size) where
+  pub counted : (startOf (set pos 1 k) ≡ startOf pos) × (countOf (set pos 1 k) ≡ k)
+  counted = two (λ l. (startOf (set l 1 k) ≡ startOf l) × (countOf (set l 1 k) ≡ k)) (λ a b l. (refl, omega arith)) pos n
 
-pub placed : (pos : List ℕ) (i k : ℕ) → length pos ≡ 2 → k ≤ capacity → (startOf (set (set pos 0 i) 1 k) ≡ i) × (countOf (set (set pos 0 i) 1 k) ≡ k)
-placed pos i k n h = two (λ l. (startOf (set (set l 0 i) 1 k) ≡ i) × (countOf (set (set l 0 i) 1 k) ≡ k)) (λ a b. (refl, omega arith)) pos n
+  pub placed : (i : ℕ) → (startOf (set (set pos 0 i) 1 k) ≡ i) × (countOf (set (set pos 0 i) 1 k) ≡ k)
+  placed i = two (λ l. (startOf (set (set l 0 i) 1 k) ≡ i) × (countOf (set (set l 0 i) 1 k) ≡ k)) (λ a b l. (refl, omega arith)) pos n
 
--- ---- Nine stores and two make a fresh port
+-- ---- Sixteen stores and four make a fresh port
 
-pub begins : (regs pos : List ℕ) → length regs ≡ 9 → length pos ≡ 2
-    → Begins (set (set (set (set (set (set (set (set (set regs 0 0x0c) 1 0) 2 1) 3 3) 4 8) 5 0x60) 6 0xb0) 7 0) 8 0) (set (set pos 0 0) 1 0)
-unfolding portOf queue
-begins regs pos n m = record {
-  holds = λ ring.
-      nine (λ l. portOf (set (set (set (set (set (set (set (set (set l 0 0x0c) 1 0) 2 1) 3 3) 4 8) 5 0x60) 6 0xb0) 7 0) 8 0) (set (set pos 0 0) 1 0) ring ≡ fresh capacity)
-      (λ a b c d e f g h i. two (λ l. portOf (0x0c ∷ 0 ∷ 1 ∷ 3 ∷ 8 ∷ 0x60 ∷ 0xb0 ∷ 0 ∷ 0 ∷ []) (set (set l 0 0) 1 0) ring ≡ fresh capacity) (λ a b. refl) pos m) regs n;
-  placed = two (λ l. set (set l 0 0) 1 0 ≡ 0 ∷ 0 ∷ []) (λ a b. refl) pos m;
-}
+module _ (regs pos : List ℕ) (n : length regs ≡ 16) (m : length pos ≡ 4) where
+  abbrev nineStored : List ℕ → List ℕ
+  nineStored l = set (set (set (set (set (set (set (set (set l 0 0x0c) 1 0) 2 1) 3 3) 4 8) 5 0x60) 6 0xb0) 7 0) 8 0
+
+  abbrev allStored : List ℕ → List ℕ
+  allStored l = set (set (set (set (set (set (set (nineStored l) 9 0) 10 0) 11 0) 12 0) 13 0) 14 0) 15 0
+
+  abbrev freshRegs : List ℕ
+  freshRegs = 0x0c ∷ 0 ∷ 1 ∷ 3 ∷ 8 ∷ 0x60 ∷ 0xb0 ∷ 0 ∷ 0 ∷ 0 ∷ 0 ∷ 0 ∷ 0 ∷ 0 ∷ 0 ∷ 0 ∷ []
+
+  registers : allStored regs ≡ freshRegs
+  registers =
+      nine (λ l. length l ≡ 16 → allStored l ≡ freshRegs)
+      (λ a b c d e f g h i l k. seven (λ r. allStored (a ∷ b ∷ c ∷ d ∷ e ∷ f ∷ g ∷ h ∷ i ∷ r) ≡ freshRegs) (λ a b c d e f g. refl) l (omega arith)) regs n n
+
+  four : (l : List ℕ) → length l ≡ 4 → set (set (set (set l 0 0) 1 0) 2 0) 3 0 ≡ 0 ∷ 0 ∷ 0 ∷ 0 ∷ []
+  four (a ∷ b ∷ c ∷ d ∷ []) e = refl
+  four [] e = absurd (omega arith)
+  four (a ∷ []) e = absurd (omega arith)
+  four (a ∷ b ∷ []) e = absurd (omega arith)
+  four (a ∷ b ∷ c ∷ []) e = absurd (omega arith)
+  four (a ∷ b ∷ c ∷ d ∷ f ∷ l) e = absurd (omega arith)
+
+  pub makes-fresh : MakesFresh (allStored regs) (set (set (set (set pos 0 0) 1 0) 2 0) 3 0)
+  unfolding portOf queue
+  makes-fresh = rw (registers, four pos m) (record { holds = λ ring. refl; placed = refl; sparesZero = refl })

@@ -4,13 +4,14 @@ use mathlib.Core.Path.{_≡_, refl, _∙_}
 use mathlib.Core.Bool.{true, false}
 use mathlib.Core.List.{List, [], _∷_}
 use Prim.Native.Nat.{ℕ, _+_, _*_, _≤_, _<_}
-use lib.ListN.{length, set, length-set}
+use native.Mathlib.Omega.{arith}
+use lib.ListN.{length, set}
 use Rattle.serial.specs.Interrupts.{transmitterEmpty}
 use Rattle.serial.specs.Port.{Port, Settings, Register, RBR-THR, IER, LCR, MCR, SCR, isOpen, inLoop, addressed, withSettings, stores, putLcr, putMcr, putScr, putDll, putDlm, writeIer, writeLine, writeLoop, writeRegister, writeOf}
 use Rattle.serial.specs.Layout.{portOf}
 use Rattle.serial.specs.Calls.{Writes}
 use Rattle.serial.specs.Inside.{Announces}
-use Rattle.serial.proofs.Registers.{setting, marks}
+use Rattle.serial.proofs.Registers.{one-stored, setting, marks}
 use Rattle.serial.proofs.Addressing.{at-dll, at-dlm, unwritten}
 use Rattle.serial.proofs.Answering.{as-it-was, registers-alone}
 
@@ -19,41 +20,41 @@ module _ (regs pos ring : List ℕ) where
   p = portOf regs pos ring
 
   -- A byte goes out.
-  pub line-sends : length regs ≡ 9 → (v : ℕ) {regs′ : List ℕ} {raises r : ℕ} → Announces regs transmitterEmpty regs′ raises → r ≡ v + 256 + 512 * raises
+  pub line-sends : length regs ≡ 16 → (v : ℕ) {regs′ : List ℕ} {raises r : ℕ} → Announces regs transmitterEmpty regs′ raises → r ≡ v + 0x2_0000 + 0x100_0000 * raises
       → Writes (λ q. writeLine q v) regs pos ring regs′ pos ring r
   unfolding portOf writeLine
   line-sends n v {r = r} a e =
-      rw (a .marked) (registers-alone n (length-set regs _ _ ∙ n) (marks regs pos ring n _) (rw (e, a .raised)))
+      rw (a .marked) (registers-alone n (one-stored regs 2 _ (omega arith)) (marks regs pos ring n _) (rw (e, a .raised)))
 
   -- A setting is stored at place k: the first `refl` says which register it is, the second that it lies there.
-  module _ (n : length regs ≡ 9) (offset v : ℕ) where
-    stored : (k : ℕ) (put : Settings → ℕ → Settings) {register : Register} → addressed (isOpen p) offset ≡ register → writeRegister p register v ≡ stores p (put (p .settings) v)
-        → ((a b c d e f g h i : ℕ) → let l = a ∷ b ∷ c ∷ d ∷ e ∷ f ∷ g ∷ h ∷ i ∷ [] in portOf (set l k v) pos ring ≡ withSettings (portOf l pos ring) (put (portOf l pos ring .settings) v))
+  module _ (n : length regs ≡ 16) (offset v : ℕ) where
+    stored : (k : ℕ) → k < 9 → (put : Settings → ℕ → Settings) {register : Register} → addressed (isOpen p) offset ≡ register → writeRegister p register v ≡ stores p (put (p .settings) v)
+        → ((a b c d e f g h i : ℕ) (rest : List ℕ) → let l = a ∷ b ∷ c ∷ d ∷ e ∷ f ∷ g ∷ h ∷ i ∷ rest in portOf (set l k v) pos ring ≡ withSettings (portOf l pos ring) (put (portOf l pos ring .settings) v))
         → Writes (λ q. writeOf q offset v) regs pos ring (set regs k v) pos ring 0
-    stored k put a e t = rw (a, e) (registers-alone n (length-set regs _ _ ∙ n) (setting regs pos ring n k put v t) refl)
+    stored k h put a e t = rw (a, e) (registers-alone n (one-stored regs k v h) (setting regs pos ring n k put v t) refl)
 
     abbrev At : ℕ → Type 0
     At k = Writes (λ q. writeOf q offset v) regs pos ring (set regs k v) pos ring 0
 
     pub stores-dll : isOpen p ≡ true → offset ≡ 0 → At 0
     unfolding portOf writeRegister
-    stores-dll o e = stored 0 putDll (at-dll _ _ o e) refl (λ a b c d e f g h i. refl)
+    stores-dll o e = stored 0 (omega arith) putDll (at-dll _ _ o e) refl (λ a b c d e f g h i l. refl)
 
     pub stores-dlm : isOpen p ≡ true → offset < 2 → (offset ≡ 0 → ⊥) → At 8
     unfolding portOf writeRegister
-    stores-dlm o h e = stored 8 putDlm (at-dlm _ _ o h e) refl (λ a b c d e f g h i. refl)
+    stores-dlm o h e = stored 8 (omega arith) putDlm (at-dlm _ _ o h e) refl (λ a b c d e f g h i l. refl)
 
     pub stores-lcr : offset ≡ 3 → At 3
     unfolding portOf writeRegister addressed
-    stores-lcr e = stored 3 putLcr {register = LCR} (rw e) refl (λ a b c d e f g h i. refl)
+    stores-lcr e = stored 3 (omega arith) putLcr {register = LCR} (rw e) refl (λ a b c d e f g h i l. refl)
 
     pub stores-mcr : offset ≡ 4 → At 4
     unfolding portOf writeRegister addressed
-    stores-mcr e = stored 4 putMcr {register = MCR} (rw e) refl (λ a b c d e f g h i. refl)
+    stores-mcr e = stored 4 (omega arith) putMcr {register = MCR} (rw e) refl (λ a b c d e f g h i l. refl)
 
     pub stores-scr : offset ≡ 7 → At 7
     unfolding portOf writeRegister addressed
-    stores-scr e = stored 7 putScr {register = SCR} (rw e) refl (λ a b c d e f g h i. refl)
+    stores-scr e = stored 7 (omega arith) putScr {register = SCR} (rw e) refl (λ a b c d e f g h i l. refl)
 
   pub stores-nothing : (offset v : ℕ) → 2 ≤ offset → (offset ≡ 3 → ⊥) → (offset ≡ 4 → ⊥) → (offset ≡ 7 → ⊥) → Writes (λ q. writeOf q offset v) regs pos ring regs pos ring 0
   stores-nothing offset v h a b c = rw (unwritten (isOpen p) offset p v h a b c) (as-it-was refl refl)

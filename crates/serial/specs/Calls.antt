@@ -4,51 +4,70 @@ use mathlib.Core.Path.{_≡_}
 use mathlib.Core.List.{List, [], _∷_}
 use mathlib.Core.Bool.{cond}
 use Rattle.serial.specs.Port.{Port, Out, Input, fresh, roomOf}
-use Rattle.serial.specs.Layout.{capacity, portOf, spareOf}
+use Rattle.serial.specs.Layout.{size, portOf, unusedOf, spareRegisters, sparePositions, freshSpareRegisters, freshSparePositions}
 
--- ---- The words
+-- ---- The words: one layout for all calls
 
--- After a read: the reply, and 512 for each time that the interrupt is raised.
+-- The low 16 bits are a number: the reply, the byte sent, how many bytes are taken. Then one bit each: refused, a byte is sent, reachable (a
+-- restore's); the bits behind them up to 0x80_0000 are spare. From 0x100_0000 on stands how often the interrupt is raised.
+abbrev pub refusedBit : ℕ
+refusedBit = 0x1_0000
+
+abbrev pub sentBit : ℕ
+sentBit = 0x2_0000
+
+abbrev pub reachableBit : ℕ
+reachableBit = 0x4_0000
+
+abbrev pub oneRaise : ℕ
+oneRaise = 0x100_0000
+
+-- After a read: the reply.
 abbrev pub readWord : Out → ℕ
-readWord o = o .reply + 512 * o .raises
+readWord o = o .reply + oneRaise * o .raises
 
--- After a write: the byte sent and 256, where one is sent, and 512 for each raise.
+-- After a write: the byte sent, where one is sent.
 abbrev pub sentWord : List ℕ → ℕ
 sentWord [] = 0
-sentWord (byte ∷ rest) = byte + 256
+sentWord (byte ∷ rest) = byte + sentBit
 
 abbrev pub writeWord : Out → ℕ
-writeWord o = sentWord (o .sent) + 512 * o .raises
+writeWord o = sentWord (o .sent) + oneRaise * o .raises
 
--- After an input: how many bytes are taken, 0x1_0000 for "full", and 0x2_0000 for each raise.
+-- After an input: how many bytes are taken; refused is "full".
 abbrev pub inputWord : Input → ℕ
-inputWord i = i .taken + cond (i .full) 0x1_0000 0 + 0x2_0000 * i .raises
+inputWord i = i .taken + cond (i .full) refusedBit 0 + oneRaise * i .raises
 
 -- ---- The memory
 
--- The call answers the word, and the memory holds the port; the bytes of the storage that do not wait are as they were; and where the
--- port stays what it was (an input refused, a byte dropped, a register read) not a byte of the memory changes.
+abbrev pub SparesKept : List ℕ → List ℕ → List ℕ → List ℕ → Type 0
+SparesKept regs pos regs′ pos′ = (spareRegisters regs′ ≡ spareRegisters regs) × (sparePositions pos′ ≡ sparePositions pos)
+
+-- The call answers the word, and the memory holds the port. The bytes of the ring that do not wait are as they were, and so are the spare
+-- registers and positions. Where the port stays what it was (an input refused, a byte dropped, a register read) not a byte of the memory changes.
 pub record Answers (regs pos ring regs′ pos′ ring′ : List ℕ) (r : ℕ) (port : Port) (word : ℕ) : Type 0 where
   pub answer : r ≡ word
   pub holds : portOf regs′ pos′ ring′ ≡ port
-  pub spared : spareOf pos′ ring′ ≡ spareOf pos′ ring
-  pub still : port ≡ portOf regs pos ring → (regs′ ≡ regs) × ((pos′ ≡ pos) × (ring′ ≡ ring))
+  pub unusedBytesKept : unusedOf pos′ ring′ ≡ unusedOf pos′ ring
+  pub sparesKept : SparesKept regs pos regs′ pos′
+  pub unchangedIfSamePort : port ≡ portOf regs pos ring → (regs′ ≡ regs) × ((pos′ ≡ pos) × (ring′ ≡ ring))
 
--- A call is an access of the definition. A read is not lent the storage to change it.
+-- A call is an access of the definition. A read is not lent the ring to change it.
 abbrev pub Reads : (Port → Out) → List ℕ → List ℕ → List ℕ → List ℕ → List ℕ → ℕ → Type 0
 Reads access regs pos ring regs′ pos′ r = let o = access (portOf regs pos ring) in Answers regs pos ring regs′ pos′ ring r (o .port) (readWord o)
 
 abbrev pub Writes : (Port → Out) → List ℕ → List ℕ → List ℕ → List ℕ → List ℕ → List ℕ → ℕ → Type 0
 Writes access regs pos ring regs′ pos′ ring′ r = let o = access (portOf regs pos ring) in Answers regs pos ring regs′ pos′ ring′ r (o .port) (writeWord o)
 
-abbrev pub Takes : (Port → Input) → List ℕ → List ℕ → List ℕ → List ℕ → List ℕ → List ℕ → ℕ → Type 0
-Takes access regs pos ring regs′ pos′ ring′ r = let i = access (portOf regs pos ring) in Answers regs pos ring regs′ pos′ ring′ r (i .port) (inputWord i)
+abbrev pub TakesInput : (Port → Input) → List ℕ → List ℕ → List ℕ → List ℕ → List ℕ → List ℕ → ℕ → Type 0
+TakesInput access regs pos ring regs′ pos′ ring′ r = let i = access (portOf regs pos ring) in Answers regs pos ring regs′ pos′ ring′ r (i .port) (inputWord i)
 
--- A fresh port, whatever the storage holds; it starts at the storage's first place.
-pub record Begins (regs′ pos′ : List ℕ) : Type 0 where
-  pub holds : (ring : List ℕ) → portOf regs′ pos′ ring ≡ fresh capacity
-  pub placed : pos′ ≡ 0 ∷ 0 ∷ []
+-- A fresh port, whatever the ring holds; it starts at the ring's first place. What is spare is 0.
+pub record MakesFresh (regs′ pos′ : List ℕ) : Type 0 where
+  pub holds : (ring : List ℕ) → portOf regs′ pos′ ring ≡ fresh size
+  pub placed : pos′ ≡ 0 ∷ 0 ∷ freshSparePositions
+  pub sparesZero : spareRegisters regs′ ≡ freshSpareRegisters
 
--- The room left, whatever the registers and the storage hold.
+-- The room left, whatever the registers and the ring hold.
 abbrev pub HasRoom : List ℕ → ℕ → Type 0
 HasRoom pos r = (regs ring : List ℕ) → r ≡ roomOf (portOf regs pos ring)

@@ -6,7 +6,7 @@ use lib.ListN.{length, getD, set}
 use Rattle.serial.specs.Interrupts.{Kind, receivedData, announce}
 use Rattle.serial.specs.LineStatus.{lsrReady, lsrAfterRead}
 use Rattle.serial.specs.Ring.{queue}
-use Rattle.serial.specs.Layout.{capacity, startOf}
+use Rattle.serial.specs.Layout.{places, startOf}
 
 -- A kind is announced: IER lies at 1, IIR at 2.
 pub record Announces (regs : List ℕ) (kind : Kind) (regs′ : List ℕ) (r : ℕ) : Type 0 where
@@ -27,11 +27,11 @@ WaitAfterRead regs n regs′ = (left : List ℕ) → length left ≡ n → regs�
 
 -- Of n bytes that wait the first, b, has left: the start lies at 0 of the positions, the number at 1.
 pub record Taken (pos ring : List ℕ) (n : ℕ) (pos′ : List ℕ) (b : ℕ) : Type 0 where
-  pub long : length pos ≡ 2
-  pub moved : pos′ ≡ set (set pos 0 ((startOf pos + 1) % capacity)) 1 (n - 1)
-  pub byte : b ≡ getD ring (startOf pos % capacity) 0
+  pub long : length pos ≡ 4
+  pub moved : pos′ ≡ set (set pos 0 ((startOf pos + 1) % places)) 1 (n - 1)
+  pub byte : b ≡ getD ring (startOf pos % places) 0
 
--- Bytes have been put behind the n that lie from `start` on, so that m lie there; the rest of the storage is as it was.
-pub record Put (capacity : ℕ) (storage : List ℕ) (start n : ℕ) (bytes storage′ : List ℕ) (m : ℕ) : Type 0 where
-  pub behind : queue capacity storage′ start m ≡ queue capacity storage start n ++ bytes
-  pub rest : queue capacity storage′ (start + m) (capacity - m) ≡ queue capacity storage (start + m) (capacity - m)
+-- Bytes have been put behind the n that lie from `start` on, so that m lie there; the rest of the ring is as it was.
+pub record Put (places : ℕ) (ring : List ℕ) (start n : ℕ) (bytes ring′ : List ℕ) (m : ℕ) : Type 0 where
+  pub behind : queue places ring′ start m ≡ queue places ring start n ++ bytes
+  pub rest : queue places ring′ (start + m) (places - m) ≡ queue places ring (start + m) (places - m)

@@ -1,21 +1,25 @@
 -- How a port lies in the memory that its host lends: any bytes are some port, and none holds more than its size.
 use Prim.Native.Nat.{ℕ, _+_, _-_, min}
-use mathlib.Core.List.{List}
-use lib.ListN.{getD}
+use mathlib.Core.List.{List, [], _∷_}
+use lib.ListN.{getD, drop}
 use Rattle.serial.specs.Port.{Port}
 use Rattle.serial.specs.Ring.{queue}
 
--- How many bytes may wait: the size of the storage.
-abbrev pub capacity : ℕ
-capacity = 64
+-- How many bytes may wait.
+abbrev pub size : ℕ
+size = 64
 
--- At 0 and 1 of the positions lie the place of the first waiting byte, which goes round the storage, and the number of those that wait;
--- a number above the capacity counts as the capacity.
+-- How many places the ring has: places go round by this number.
+abbrev pub places : ℕ
+places = 1024
+
+-- At 0 and 1 of the positions lie the place of the first waiting byte, which goes round the ring, and the number of those that wait;
+-- a number above the size counts as the size.
 abbrev pub startOf : List ℕ → ℕ
 startOf pos = getD pos 0 0
 
 abbrev pub countOf : List ℕ → ℕ
-countOf pos = min (getD pos 1 0) capacity
+countOf pos = min (getD pos 1 0) size
 
 -- A register lies at its offset; the divisor's low byte DLL lies at 0 and its high byte DLM at 8.
 unfoldable pub portOf : List ℕ → List ℕ → List ℕ → Port
@@ -31,10 +35,24 @@ portOf regs pos ring = record {
   iir = getD regs 2 0;
   lsr = getD regs 5 0;
   msr = getD regs 6 0;
-  waiting = queue capacity ring (startOf pos) (countOf pos);
-  size = capacity;
+  waiting = queue places ring (startOf pos) (countOf pos);
+  size = size;
 }
 
--- The bytes of the storage that do not wait.
-abbrev pub spareOf : List ℕ → List ℕ → List ℕ
-spareOf pos ring = queue capacity ring (startOf pos + countOf pos) (capacity - countOf pos)
+-- The bytes of the ring that do not wait.
+abbrev pub unusedOf : List ℕ → List ℕ → List ℕ
+unusedOf pos ring = queue places ring (startOf pos + countOf pos) (places - countOf pos)
+
+-- Registers 9 to 15 and positions 2 and 3 are spare.
+abbrev pub spareRegisters : List ℕ → List ℕ
+spareRegisters regs = drop 9 regs
+
+abbrev pub sparePositions : List ℕ → List ℕ
+sparePositions pos = drop 2 pos
+
+-- In a fresh port they are 0.
+abbrev pub freshSpareRegisters : List ℕ
+freshSpareRegisters = 0 ∷ 0 ∷ 0 ∷ 0 ∷ 0 ∷ 0 ∷ 0 ∷ []
+
+abbrev pub freshSparePositions : List ℕ
+freshSparePositions = 0 ∷ 0 ∷ []

@@ -1,7 +1,10 @@
 // IER and IIR: kinds of interrupt are marked, unmarked and announced.
+use crate::answer::ONE_RAISE;
 use crate::memory;
 use crate::memory::IER;
 use crate::memory::IIR;
+use crate::memory::Pos;
+use crate::memory::Regs;
 use crate::ring;
 ghost use mathlib.Core.Path.{_≡_};
 ghost use mathlib.Core.List.{List};
@@ -64,41 +67,41 @@ fn is_due(ier: u8, iir: u8, enabled: u8, marked: u8) -> bool
 }
 
 // A kind is announced. The answer: how often the interrupt is to be raised.
-fn announce(regs: &mut [u8; 9], enabled: u8, marked: u8) -> u32
+fn announce(regs: &mut Regs, enabled: u8, marked: u8) -> u32
     ensures { λ r. ⌜ Announces (now (regs .entry)) (record { enabledBy = enabled; markedBy = marked }) (now (regs .exit)) r ⌝ }
 {
     let iir = regs[IIR];
     if is_due(regs[IER], iir, enabled, marked) {
-        memory::nine(regs);
+        memory::regs_len(regs);
         regs[IIR] = mark(iir, marked);
         return 1;
     }
     0
 }
 
-pub fn announce_received_data(regs: &mut [u8; 9]) -> u32
+pub fn announce_received_data(regs: &mut Regs) -> u32
     ensures { λ r. ⌜ Announces (now (regs .entry)) receivedData (now (regs .exit)) r ⌝ }
 {
     announce(regs, 0x01, 0x04)
 }
 
-pub fn announce_transmitter_empty(regs: &mut [u8; 9]) -> u32
+pub fn announce_transmitter_empty(regs: &mut Regs) -> u32
     ensures { λ r. ⌜ Announces (now (regs .entry)) transmitterEmpty (now (regs .exit)) r ⌝ }
 {
     announce(regs, 0x02, 0x02)
 }
 
-// IER: what there is to announce is announced under the new value. 512 for each interrupt to raise.
-pub fn write_ier(regs: &mut [u8; 9], pos: &[u32; 2], value: u8) -> u32
+// IER: what there is to announce is announced under the new value. The answer has the raises.
+pub fn write_ier(regs: &mut Regs, pos: &Pos, value: u8) -> u32
     ensures { λ r. ⌜ ((ring : List ℕ) → Writes (λ p. writeIer p value) (now (regs .entry)) (now (pos .entry)) ring (now (regs .exit)) (now (pos .entry)) ring r) ⌝ }
 {
-    memory::nine(regs);
+    memory::regs_len(regs);
     regs[IER] = ier_stored(value);
     if ring::count(pos) == 0 {
-        return 512 * announce_transmitter_empty(regs);
+        return ONE_RAISE * announce_transmitter_empty(regs);
     }
     let received = announce_received_data(regs);
-    512 * (received + announce_transmitter_empty(regs))
+    ONE_RAISE * (received + announce_transmitter_empty(regs))
 }
 
 // What a read of IIR answers: the FIFOs are always on.

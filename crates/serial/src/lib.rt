@@ -1,5 +1,6 @@
 // A 16550 serial port in memory that its host lends, in place: nothing is copied, and any bytes are
 // some port. The host hands each access of the guest to these functions and acts on the answer.
+pub mod answer;
 mod interrupts;
 mod line_status;
 pub mod memory;
@@ -8,6 +9,9 @@ mod receiver;
 pub mod ring;
 mod transmitter;
 
+use answer::ONE_RAISE;
+use answer::REFUSED;
+use memory::COUNT;
 use memory::DLL;
 use memory::DLM;
 use memory::IER;
@@ -16,20 +20,24 @@ use memory::LCR;
 use memory::LSR;
 use memory::MCR;
 use memory::MSR;
+use memory::Pos;
+use memory::Regs;
+use memory::Ring;
 use memory::SCR;
+use memory::START;
 ghost use mathlib.Core.Path.{_≡_};
 ghost use mathlib.Core.Bool.{true, false};
 ghost use Prim.Native.Nat.{_≤_};
 ghost use Rattle.common.specs.Bits.{on};
 ghost use Rattle.serial.specs.Port.{readOf, writeOf, inputOf};
-ghost use Rattle.serial.specs.Calls.{Reads, Writes, Takes, Begins, HasRoom};
+ghost use Rattle.serial.specs.Calls.{Reads, Writes, TakesInput, MakesFresh, HasRoom};
 
-// A fresh port; its storage may hold anything.
-pub fn init(regs: &mut [u8; 9], pos: &mut [u32; 2])
-    ensures { λ r. ⌜ Begins (now (regs .exit)) (now (pos .exit)) ⌝ }
+// A fresh port; its ring may hold anything.
+pub fn init(regs: &mut Regs, pos: &mut Pos)
+    ensures { λ r. ⌜ MakesFresh (now (regs .exit)) (now (pos .exit)) ⌝ }
 {
-    memory::nine(regs);
-    memory::two(pos);
+    memory::regs_len(regs);
+    memory::pos_len(pos);
     regs[DLL] = 0x0c;
     regs[IER] = 0x00;
     regs[IIR] = 0x01;
@@ -39,8 +47,17 @@ pub fn init(regs: &mut [u8; 9], pos: &mut [u32; 2])
     regs[MSR] = 0xb0;
     regs[SCR] = 0x00;
     regs[DLM] = 0x00;
-    pos[0] = 0;
-    pos[1] = 0;
+    regs[9] = 0;
+    regs[10] = 0;
+    regs[11] = 0;
+    regs[12] = 0;
+    regs[13] = 0;
+    regs[14] = 0;
+    regs[15] = 0;
+    pos[START] = 0;
+    pos[COUNT] = 0;
+    pos[2] = 0;
+    pos[3] = 0;
 }
 
 // LCR 0x80: offsets 0 and 1 are the divisor's.
@@ -61,8 +78,8 @@ fn is_status_or_control(offset: u8) -> bool
     offset < 6
 }
 
-// The guest reads at `offset`: the reply, and 512 for each interrupt to raise.
-pub fn read(regs: &mut [u8; 9], pos: &mut [u32; 2], ring: &[u8; 64], offset: u8) -> u32
+// The guest reads at `offset`: the reply, and the raises.
+pub fn read(regs: &mut Regs, pos: &mut Pos, ring: &Ring, offset: u8) -> u32
     ensures { λ r. ⌜ Reads (λ p. readOf p offset) (now (regs .entry)) (now (pos .entry)) (now (ring .entry)) (now (regs .exit)) (now (pos .exit)) r ⌝ }
 {
     if offset == 0 {
@@ -82,7 +99,7 @@ pub fn read(regs: &mut [u8; 9], pos: &mut [u32; 2], ring: &[u8; 64], offset: u8)
             return memory::wide(regs[IER]);
         }
         2 => {
-            memory::nine(regs);
+            memory::regs_len(regs);
             let iir = regs[IIR];
             regs[IIR] = interrupts::AFTER_READ;
             return memory::wide(interrupts::iir_read(iir));
@@ -99,18 +116,11 @@ pub fn read(regs: &mut [u8; 9], pos: &mut [u32; 2], ring: &[u8; 64], offset: u8)
     }
 }
 
-// The guest writes `value` at `offset`: the byte to send and 256, where there is one, and 512 for
-// each interrupt to raise.
-pub fn write(
-    regs: &mut [u8; 9],
-    pos: &mut [u32; 2],
-    ring: &mut [u8; 64],
-    offset: u8,
-    value: u8,
-) -> u32
+// The guest writes `value` at `offset`: the byte to send, where there is one, and the raises.
+pub fn write(regs: &mut Regs, pos: &mut Pos, ring: &mut Ring, offset: u8, value: u8) -> u32
     ensures { λ r. ⌜ Writes (λ p. writeOf p offset value) (now (regs .entry)) (now (pos .entry)) (now (ring .entry)) (now (regs .exit)) (now (pos .exit)) (now (ring .exit)) r ⌝ }
 {
-    memory::nine(regs);
+    memory::regs_len(regs);
     if offset < 2 {
         if is_open(regs[LCR]) {
             if offset == 0 {
@@ -147,10 +157,9 @@ pub fn write(
     }
 }
 
-// Bytes from the host's side of the line: how many were taken, 0x1_0000 for "full", and 0x2_0000
-// for each interrupt to raise.
-pub fn input(regs: &mut [u8; 9], pos: &mut [u32; 2], ring: &mut [u8; 64], input: &[u8]) -> u32
-    ensures { λ r. ⌜ Takes (λ p. inputOf p (now (input .entry))) (now (regs .entry)) (now (pos .entry)) (now (ring .entry)) (now (regs .exit)) (now (pos .exit)) (now (ring .exit)) r ⌝ }
+// Bytes from the host's side of the line: how many were taken, or that the port is full, and the raises.
+pub fn input(regs: &mut Regs, pos: &mut Pos, ring: &mut Ring, input: &[u8]) -> u32
+    ensures { λ r. ⌜ TakesInput (λ p. inputOf p (now (input .entry))) (now (regs .entry)) (now (pos .entry)) (now (ring .entry)) (now (regs .exit)) (now (pos .exit)) (now (ring .exit)) r ⌝ }
 {
     if modem::is_loop(regs[MCR]) {
         return 0;
@@ -160,20 +169,20 @@ pub fn input(regs: &mut [u8; 9], pos: &mut [u32; 2], ring: &mut [u8; 64], input:
         return 0;
     }
     let n = ring::count(pos);
-    if n == ring::CAPACITY {
-        return 0x1_0000;
+    if n == memory::SIZE {
+        return REFUSED;
     }
-    memory::nine(regs);
-    memory::two(pos);
+    memory::regs_len(regs);
+    memory::pos_len(pos);
     let k = ring::fitting(n, len);
-    ring::fill(ring, pos[0], n, input, k);
+    ring::fill(ring, pos[START], n, input, k);
     let taken = k as u32;
-    taken + 0x2_0000 * receiver::receive(regs, pos, n + taken)
+    taken + ONE_RAISE * receiver::receive(regs, pos, n + taken)
 }
 
 // How many more bytes the port can take.
-pub fn room(pos: &[u32; 2]) -> u32
+pub fn room(pos: &Pos) -> u32
     ensures { λ r. ⌜ HasRoom (now (pos .entry)) r ⌝ }
 {
-    ring::CAPACITY - ring::count(pos)
+    memory::SIZE - ring::count(pos)
 }

@@ -1,8 +1,24 @@
-// Where each register lies in the lent memory, and how long that memory is.
+// The memory that a host lends for a port: its types, where each register and position lies in it, and how long it is.
 ghost use mathlib.Core.Path.{_≡_};
 ghost use Prim.Native.Nat.{_≤_};
 ghost use lib.ListN.{length, getD};
-ghost use Rattle.serial.specs.Layout.{capacity};
+ghost use mathlib.Core.Logic.{_↔_};
+ghost use mathlib.Core.Bool.{true};
+ghost use Rattle.serial.specs.Layout.{places, spareRegisters, freshSpareRegisters};
+
+// Registers 9 to 15 are spare.
+pub type Regs = [u8; 16];
+
+// Where the first waiting byte lies and how many wait; two are spare.
+pub type Pos = [u32; 4];
+
+// The places in which bytes wait.
+pub type Ring = [u8; 1024];
+
+pub const PLACES: u32 = 1024;
+
+// How many bytes may wait.
+pub const SIZE: u32 = 64;
 
 // A register lies at its offset; the divisor's two bytes share offsets and lie at the ends.
 pub const DLL: usize = 0;
@@ -23,27 +39,51 @@ pub const SCR: usize = 7;
 
 pub const DLM: usize = 8;
 
+// From here on the registers are spare.
+const SPARE: usize = 9;
+
+const REGS: usize = 16;
+
+pub const START: usize = 0;
+
+pub const COUNT: usize = 1;
+
 // Arrays are as long as their types say. A proof learns it from these calls, which do nothing.
-pub fn nine(regs: &[u8; 9])
-    ensures { λ r. ⌜ length (now (regs .entry)) ≡ 9 ⌝ }
+pub fn regs_len(regs: &Regs)
+    ensures { λ r. ⌜ length (now (regs .entry)) ≡ 16 ⌝ }
 {
     let all: &[u8] = regs;
 }
 
-pub fn two(pos: &[u32; 2])
-    ensures { λ r. ⌜ length (now (pos .entry)) ≡ 2 ⌝ }
+pub fn pos_len(pos: &Pos)
+    ensures { λ r. ⌜ length (now (pos .entry)) ≡ 4 ⌝ }
 {
     let all: &[u32] = pos;
 }
 
-pub fn whole(ring: &[u8; 64])
-    ensures { λ r. ⌜ length (now (ring .entry)) ≡ capacity ⌝ }
+pub fn ring_len(ring: &Ring)
+    ensures { λ r. ⌜ length (now (ring .entry)) ≡ places ⌝ }
 {
     let all: &[u8] = ring;
 }
 
+// The spare registers are 0, as in a fresh port.
+pub fn are_spares_zero(regs: &Regs) -> bool
+    ensures { λ r. ⌜ (r ≡ true) ↔ (spareRegisters (now (regs .entry)) ≡ freshSpareRegisters) ⌝ }
+{
+    regs_len(regs);
+    let mut i = SPARE;
+    while i < REGS {
+        if regs[i] != 0 {
+            return false;
+        }
+        i += 1;
+    }
+    true
+}
+
 // The register that lies at an offset.
-pub fn at(regs: &[u8; 9], offset: u8) -> u8
+pub fn at(regs: &Regs, offset: u8) -> u8
     requires { ⌜ offset ≤ 8 ⌝ }
     ensures { λ r. ⌜ r ≡ getD (now (regs .entry)) offset 0 ⌝ }
 {

@@ -1,9 +1,15 @@
 // The receiver: bytes come, wait in the ring, and are read.
+use crate::answer::ONE_RAISE;
 use crate::interrupts;
 use crate::line_status;
 use crate::memory;
+use crate::memory::COUNT;
 use crate::memory::IIR;
 use crate::memory::LSR;
+use crate::memory::Pos;
+use crate::memory::Regs;
+use crate::memory::Ring;
+use crate::memory::START;
 use crate::ring;
 ghost use Rattle.serial.specs.Port.{readRbr, writeLoop};
 ghost use Rattle.serial.specs.Calls.{Reads, Writes};
@@ -11,12 +17,12 @@ ghost use Rattle.serial.specs.Inside.{Received};
 
 // RBR: the first byte leaves. What is usual comes first, since a guest fetches its input byte by byte:
 // received data is not marked, and more bytes wait, or none does.
-pub fn read_rbr(regs: &mut [u8; 9], pos: &mut [u32; 2], ring: &[u8; 64]) -> u32
+pub fn read_rbr(regs: &mut Regs, pos: &mut Pos, ring: &Ring) -> u32
     ensures { λ r. ⌜ Reads readRbr (now (regs .entry)) (now (pos .entry)) (now (ring .entry)) (now (regs .exit)) (now (pos .exit)) r ⌝ }
 {
-    let n = pos[1];
+    let n = pos[COUNT];
     if interrupts::is_unmarked(regs[IIR]) {
-        memory::nine(regs);
+        memory::regs_len(regs);
         if ring::several(n) {
             return memory::wide(ring::take(pos, ring, n));
         }
@@ -30,10 +36,10 @@ pub fn read_rbr(regs: &mut [u8; 9], pos: &mut [u32; 2], ring: &[u8; 64]) -> u32
 }
 
 // The same, whatever is marked and however many bytes wait.
-fn read_any_rbr(regs: &mut [u8; 9], pos: &mut [u32; 2], ring: &[u8; 64]) -> u32
+fn read_any_rbr(regs: &mut Regs, pos: &mut Pos, ring: &Ring) -> u32
     ensures { λ r. ⌜ Reads readRbr (now (regs .entry)) (now (pos .entry)) (now (ring .entry)) (now (regs .exit)) (now (pos .exit)) r ⌝ }
 {
-    memory::nine(regs);
+    memory::regs_len(regs);
     let n = ring::count(pos);
     regs[IIR] = interrupts::unmark_received_data(regs[IIR]);
     if n == 0 {
@@ -46,28 +52,28 @@ fn read_any_rbr(regs: &mut [u8; 9], pos: &mut [u32; 2], ring: &[u8; 64]) -> u32
 
 // The bytes put into the ring wait from now on, `n` in all: data is ready, received data is
 // announced. The answer: how often the interrupt is to be raised.
-pub fn receive(regs: &mut [u8; 9], pos: &mut [u32; 2], n: u32) -> u32
+pub fn receive(regs: &mut Regs, pos: &mut Pos, n: u32) -> u32
     ensures { λ r. ⌜ Received (now (regs .entry)) (now (pos .entry)) n (now (regs .exit)) (now (pos .exit)) r ⌝ }
 {
-    memory::nine(regs);
-    memory::two(pos);
+    memory::regs_len(regs);
+    memory::pos_len(pos);
     let lsr = regs[LSR];
-    pos[1] = n;
+    pos[COUNT] = n;
     let raises = interrupts::announce_received_data(regs);
     regs[LSR] = line_status::ready(lsr);
     raises
 }
 
 // THR in the loop: the byte comes back, or is lost where the receiver is full.
-pub fn write_loop(regs: &mut [u8; 9], pos: &mut [u32; 2], ring: &mut [u8; 64], value: u8) -> u32
+pub fn write_loop(regs: &mut Regs, pos: &mut Pos, ring: &mut Ring, value: u8) -> u32
     ensures { λ r. ⌜ Writes (λ p. writeLoop p value) (now (regs .entry)) (now (pos .entry)) (now (ring .entry)) (now (regs .exit)) (now (pos .exit)) (now (ring .exit)) r ⌝ }
 {
     let n = ring::count(pos);
-    if n == ring::CAPACITY {
+    if n == memory::SIZE {
         return 0;
     }
-    memory::nine(regs);
-    memory::two(pos);
-    ring::push(ring, pos[0], n, value);
-    512 * receive(regs, pos, n + 1)
+    memory::regs_len(regs);
+    memory::pos_len(pos);
+    ring::push(ring, pos[START], n, value);
+    ONE_RAISE * receive(regs, pos, n + 1)
 }

@@ -1,18 +1,21 @@
 -- What each return of the code is in the definition.
 -- Assumes nothing.
-use mathlib.Core.Path.{_≡_, refl, sym, _∙_}
+use mathlib.Core.Path.{_≡_, refl, sym, ap, _∙_}
 use mathlib.Core.List.{List, [], _∷_, _++_, append-nil}
-use Prim.Native.Nat.{ℕ, suc, _+_, _-_, _≤_, _<_}
+use Prim.Native.Nat.{ℕ, zero, suc, _+_, _-_, _≤_, _<_}
 use native.Mathlib.Nat.{add-zero, zero-add}
 use native.Mathlib.Omega.{arith}
-use lib.ListN.{length, set, take, drop, length-drop, length-take, drop-of-length-le}
+use lib.ListN.{length, set, take, drop, length-append, length-drop, length-take, drop-of-length-le}
+use mathlib.Core.Bool.{Bool, true, false, false≢true}
+use mathlib.Core.Logic.{_↔_}
 use lib.Seq.{sets, sets-eq, take-all}
 use borrow.Author.Tests.{le-leb, lt-leb}
 use Rattle.common.specs.Bytes.{bytesOf}
-use Rattle.common.specs.Forms.{Reason, tooMany, refusalWord}
-use Rattle.serial_form.specs.Form.{Read, refused, current, capacity, formOf, registersIn, readBehind}
-use Rattle.serial_form.specs.Calls.{written, Encodes, Decodes}
-use Rattle.serial_form.proofs.RoundTrip.{form-length}
+use Rattle.common.specs.Forms.{Reason, tooMany, spare, refusalWord}
+use Rattle.serial_form.specs.Form.{Read, refused, current, formOf, registersIn, savedIn, readBehind}
+use Rattle.serial.specs.Layout.{size, places, spareRegisters, freshSpareRegisters}
+use Rattle.serial_form.specs.Calls.{written, areZero, hasNoSpare, Encodes, Decodes}
+use Rattle.serial_form.proofs.RoundTrip.{first-nine, form-length}
 use Rattle.serial_form.proofs.Reading.{none-left}
 
 -- Stores from the first byte on.
@@ -36,29 +39,56 @@ sets-behind memory at (x ∷ xs) ys =
     let e : at + suc (length xs) ≡ suc at + length xs = omega arith in
     rw e (sets-behind (set memory at x) (suc at) xs ys)
 
-module _ (saved waiting form : List ℕ) (nine : length saved ≡ 9) where
-  pub writes : {form₁ form₂ form₃ form₄ : List ℕ} → form₁ ≡ sets form 0 (bytesOf 2 current) → form₂ ≡ sets form₁ 2 saved
+-- Whether the spare registers are 0, as the code finds it.
+zeros : ℕ → List ℕ
+zeros zero = []
+zeros (suc n) = 0 ∷ zeros n
+
+all-zero : (l : List ℕ) → areZero l ≡ true → l ≡ zeros (length l)
+unfolding zeros
+all-zero [] e = refl
+all-zero (zero ∷ l) e = ap (λ (k : List ℕ). 0 ∷ k) (all-zero l e)
+all-zero (suc x ∷ l) e = absurd (false≢true e)
+
+pub as-found : (saved : List ℕ) (r : Bool) → length saved ≡ 16 → (r ≡ true) ↔ (spareRegisters saved ≡ freshSpareRegisters) → hasNoSpare saved ≡ r
+unfolding zeros
+as-found saved r long found = go r (hasNoSpare saved) refl refl
+  where
+    seven : length (spareRegisters saved) ≡ 7
+    seven = length-drop 9 saved ∙ omega arith
+
+    go : (t z : Bool) → r ≡ t → hasNoSpare saved ≡ z → z ≡ t
+    go true true e f = refl
+    go true false e f = sym f ∙ ap areZero (found .0 e)
+    go false true e f = absurd (false≢true (sym e ∙ found .1 (all-zero (spareRegisters saved) f ∙ ap zeros seven)))
+    go false false e f = refl
+
+module _ (saved waiting form : List ℕ) (long : length saved ≡ 16) where
+  pub writes : {form₁ form₂ form₃ form₄ : List ℕ} → form₁ ≡ sets form 0 (bytesOf 2 current) → form₂ ≡ sets form₁ 2 (take 9 saved)
       → form₃ ≡ sets form₂ 11 (bytesOf 2 (length waiting)) → form₄ ≡ sets form₃ 13 waiting → form₄ ≡ sets form 0 (formOf saved waiting)
   unfolding formOf bytesOf
   writes e₁ e₂ e₃ e₄ =
       rw (e₄, e₃, e₂, e₁)
-      (rw nine at (sets-behind (sets form 0 (bytesOf 2 current)) 2 saved (bytesOf 2 (length waiting) ++ waiting)))
+      (rw (first-nine saved long) at (sets-behind (sets form 0 (bytesOf 2 current)) 2 (take 9 saved) (bytesOf 2 (length waiting) ++ waiting)))
 
-  pub encode-refuses : capacity < length waiting → Encodes saved waiting form form (refusalWord tooMany)
+  pub encode-refuses : size < length waiting → Encodes saved waiting form form (refusalWord tooMany)
   encode-refuses h = record { answer = rw (lt-leb _ _ h); memory = rw (lt-leb _ _ h) }
 
-  pub encode-tells : length waiting ≤ capacity → length form < 13 + length waiting → Encodes saved waiting form form (13 + length waiting)
-  encode-tells h l =
-      let short : length form < length (formOf saved waiting) = omega (arith, form-length saved waiting nine) in
-      record { answer = rw (le-leb _ _ h) (sym (form-length saved waiting nine)); memory = rw (le-leb _ _ h, lt-leb _ _ short) }
+  pub encode-refuses-spare : length waiting ≤ size → hasNoSpare saved ≡ false → Encodes saved waiting form form (refusalWord spare)
+  encode-refuses-spare h z = record { answer = rw (le-leb _ _ h, z); memory = rw (le-leb _ _ h, z) }
 
-  pub encode-writes : {form′ : List ℕ} → length waiting ≤ capacity → 13 + length waiting ≤ length form → form′ ≡ sets form 0 (formOf saved waiting)
+  pub encode-tells : length waiting ≤ size → hasNoSpare saved ≡ true → length form < 13 + length waiting → Encodes saved waiting form form (13 + length waiting)
+  encode-tells h z l =
+      let short : length form < length (formOf saved waiting) = omega (arith, form-length saved waiting long) in
+      record { answer = rw (le-leb _ _ h, z) (sym (form-length saved waiting long)); memory = rw (le-leb _ _ h, z, lt-leb _ _ short) }
+
+  pub encode-writes : {form′ : List ℕ} → length waiting ≤ size → hasNoSpare saved ≡ true → 13 + length waiting ≤ length form → form′ ≡ sets form 0 (formOf saved waiting)
       → Encodes saved waiting form form′ (13 + length waiting)
-  encode-writes h l e =
-      let room : length (formOf saved waiting) ≤ length form = omega (arith, form-length saved waiting nine) in
+  encode-writes h z l e =
+      let room : length (formOf saved waiting) ≤ length form = omega (arith, form-length saved waiting long) in
       record {
-        answer = rw (le-leb _ _ h) (sym (form-length saved waiting nine));
-        memory = rw (e, le-leb _ _ h, le-leb _ _ room) (sets-first (formOf saved waiting) form room);
+        answer = rw (le-leb _ _ h, z) (sym (form-length saved waiting long));
+        memory = rw (e, le-leb _ _ h, z, le-leb _ _ room) (sets-first (formOf saved waiting) form room);
       }
 
 -- ---- Reading
@@ -71,18 +101,20 @@ pub goes-on : {o o′ : Read} {saved waiting saved′ waiting′ : List ℕ} {r 
     → Decodes o saved waiting saved′ waiting′ r
 goes-on e d = rw e d
 
-module _ (n : ℕ) (form saved waiting : List ℕ) {saved′ waiting′ : List ℕ} where
-  pub accepts : n ≤ capacity → length form ≡ 13 + n → length saved ≡ 9 → length waiting ≡ capacity
-      → saved′ ≡ sets saved 0 (registersIn form) → waiting′ ≡ sets waiting 0 (take (length form - 13) (drop 13 form))
+module _ (n : ℕ) (form saved waiting : List ℕ) {saved₁ saved′ waiting′ : List ℕ} where
+  pub accepts : n ≤ size → length form ≡ 13 + n → length saved ≡ 16 → length waiting ≡ places
+      → saved₁ ≡ sets saved 0 (registersIn form) → saved′ ≡ sets saved₁ 9 freshSpareRegisters → waiting′ ≡ sets waiting 0 (take (length form - 13) (drop 13 form))
       → Decodes (readBehind n form) saved waiting saved′ waiting′ n
-  accepts h e s w p q =
+  accepts h e s w p o q =
       let behind : length (drop 13 form) ≡ n = length-drop 13 form ∙ omega arith in
-      let nine : length (registersIn form) ≡ length saved = simp (length-take, length-drop) (omega arith) in
+      let nine : length (registersIn form) ≡ 9 = simp (length-take, length-drop) (omega arith) in
+      let all-of : length (savedIn form) ≡ length saved = simp (length-append, nine) (omega arith) in
+      let both : saved′ ≡ sets saved 0 (savedIn form) = rw (o, p) (rw nine at (sets-behind saved 0 (registersIn form) freshSpareRegisters)) in
       let room : length (drop 13 form) ≤ length waiting = omega arith in
       let all : length (drop 13 form) ≤ length form - 13 = omega arith in
       rw (none-left n form h e)
       (record {
         answer = sym behind;
-        registers = p ∙ sets-all (registersIn form) saved nine;
+        registers = both ∙ sets-all (savedIn form) saved all-of;
         bytes = rw (q, take-all (length form - 13) (drop 13 form) all) (sets-first (drop 13 form) waiting room);
       })

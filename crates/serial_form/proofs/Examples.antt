@@ -5,12 +5,16 @@ use mathlib.Core.List.{List, [], _∷_, _++_}
 use Prim.Native.Nat.{ℕ}
 use lib.ListN.{take}
 use Rattle.common.specs.Bytes.{bytesOf, valueOf}
+use Rattle.serial.specs.Layout.{freshSpareRegisters}
 use Rattle.common.specs.Forms.{tooShort, trailing, version, tooMany}
 use Rattle.serial_form.specs.Form.{refused, reads, formOf, readBehind, readVersion2, readForm}
 
 -- A fresh port's registers.
+abbrev nine : List ℕ
+nine = 0x0c ∷ 0x00 ∷ 0x01 ∷ 0x03 ∷ 0x08 ∷ 0x60 ∷ 0xb0 ∷ 0x00 ∷ 0x00 ∷ []
+
 abbrev fresh : List ℕ
-fresh = 0x0c ∷ 0x00 ∷ 0x01 ∷ 0x03 ∷ 0x08 ∷ 0x60 ∷ 0xb0 ∷ 0x00 ∷ 0x00 ∷ []
+fresh = nine ++ freshSpareRegisters
 
 -- Two bytes wait.
 abbrev form : List ℕ
@@ -32,16 +36,16 @@ a-byte-more : readForm (form ++ (0 ∷ [])) ≡ refused trailing
 unfolding readForm readVersion2 readBehind valueOf
 a-byte-more = refl
 
-version-1 : readForm (1 ∷ 0 ∷ fresh) ≡ refused version
+version-1 : readForm (1 ∷ 0 ∷ nine) ≡ refused version
 unfolding readForm valueOf
 version-1 = refl
 
 -- The version stands lowest byte first.
-version-512 : readForm (0 ∷ 2 ∷ fresh) ≡ refused version
+version-512 : readForm (0 ∷ 2 ∷ nine) ≡ refused version
 unfolding readForm valueOf
 version-512 = refl
 
 -- That bytes are missing too is not said.
-sixty-five : readForm (2 ∷ 0 ∷ (fresh ++ (65 ∷ 0 ∷ []))) ≡ refused tooMany
+sixty-five : readForm (2 ∷ 0 ∷ (nine ++ (65 ∷ 0 ∷ []))) ≡ refused tooMany
 unfolding readForm readVersion2 readBehind valueOf
 sixty-five = refl

@@ -9,25 +9,26 @@ use lib.ListN.{length, getD, take, drop}
 use lib.Seq.{drop-cons}
 use borrow.Author.Tests.{lt-ltb, le-ltb, ne-eqb}
 use Rattle.common.specs.Bytes.{valueOf}
+use Rattle.serial.specs.Layout.{size}
 use Rattle.common.specs.Forms.{tooShort, trailing, version, tooMany}
-use Rattle.serial_form.specs.Form.{refused, reads, current, capacity, versionIn, registersIn, countIn, readBehind, readVersion2, readForm}
+use Rattle.serial_form.specs.Form.{refused, reads, current, versionIn, savedIn, countIn, readBehind, readVersion2, readForm}
 
 -- ---- Behind the number
 
 module _ (n : ℕ) (form : List ℕ) where
-  pub too-many : capacity < n → readBehind n form ≡ refused tooMany
+  pub too-many : size < n → readBehind n form ≡ refused tooMany
   unfolding readBehind
   too-many h = rw (lt-ltb _ _ h)
 
-  pub too-few : n ≤ capacity → length form < 13 + n → readBehind n form ≡ refused tooShort
+  pub too-few : n ≤ size → length form < 13 + n → readBehind n form ≡ refused tooShort
   unfolding readBehind
   too-few h l = rw (le-ltb _ _ h, lt-ltb _ _ l)
 
-  pub left-over : n ≤ capacity → 13 + n < length form → readBehind n form ≡ refused trailing
+  pub left-over : n ≤ size → 13 + n < length form → readBehind n form ≡ refused trailing
   unfolding readBehind
   left-over h l = let m : 13 + n ≤ length form = omega arith in rw (le-ltb _ _ h, le-ltb _ _ m, lt-ltb _ _ l)
 
-  pub none-left : n ≤ capacity → length form ≡ 13 + n → readBehind n form ≡ reads (registersIn form) (drop 13 form)
+  pub none-left : n ≤ size → length form ≡ 13 + n → readBehind n form ≡ reads (savedIn form) (drop 13 form)
   unfolding readBehind
   none-left h e =
       let m : 13 + n ≤ length form = omega arith in

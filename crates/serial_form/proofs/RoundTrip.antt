@@ -2,6 +2,7 @@
 -- of range in code that is proved.
 -- Assumes nothing.
 use mathlib.Core.Path.{_≡_, refl, sym, ap, ap₂, _∙_}
+use mathlib.Core.Bool.{true}
 use mathlib.Core.List.{List, [], _∷_, _++_}
 use Prim.Native.Nat.{ℕ, _+_, _≤_, _<_}
 use native.Mathlib.Decide.{decLt, ℕ-discrete}
@@ -11,8 +12,9 @@ use lib.Seq.{take-append-seam, take-at, drop-at, drop-drop}
 use borrow.Author.Tests.{le-leb}
 use Rattle.common.specs.Bytes.{bytesOf, valueOf, Bytes}
 use Rattle.common.proofs.Bytes.{bytes-drop, bytes-of-value}
-use Rattle.serial_form.specs.Form.{Read, refused, reads, current, capacity, formOf, versionIn, registersIn, countIn, readBehind, readForm}
-use Rattle.serial_form.specs.Calls.{written, Encodes, Decodes}
+use Rattle.serial_form.specs.Form.{Read, refused, reads, current, formOf, versionIn, registersIn, savedIn, countIn, readBehind, readForm}
+use Rattle.serial.specs.Layout.{size, spareRegisters, freshSpareRegisters}
+use Rattle.serial_form.specs.Calls.{written, areZero, hasNoSpare, Encodes, Decodes}
 use Rattle.serial_form.specs.Outcomes.{Comes, noVersion, otherVersion, cutOff, tooManyWait, tooFew, leftOver, whole}
 use Rattle.serial_form.proofs.Reading.{too-many, too-few, left-over, none-left, no-count, counted, no-version, known-version, other-version}
 
@@ -39,7 +41,7 @@ module _ (form : List ℕ) where
       by : {o : Read} → Comes form o → Comes form (readForm form)
       by o = rw (only-so o) o
 
-      behind : 13 ≤ length form → versionIn form ≡ current → Dec (capacity < countIn form) → Dec (length form < 13 + countIn form)
+      behind : 13 ≤ length form → versionIn form ≡ current → Dec (size < countIn form) → Dec (length form < 13 + countIn form)
           → Dec (13 + countIn form < length form) → Comes form (readForm form)
       behind h v (yes n) l m = by (tooManyWait h v n)
       behind h v (no n) (yes l) m = by (tooFew h v (omega arith) l)
@@ -49,7 +51,7 @@ module _ (form : List ℕ) where
       fixed : 2 ≤ length form → versionIn form ≡ current → Dec (length form < 13) → Comes form (readForm form)
       fixed h v (yes l) = by (cutOff h v l)
       fixed h v (no l) =
-          behind (omega arith) v (decLt capacity (countIn form)) (decLt (length form) (13 + countIn form)) (decLt (13 + countIn form) (length form))
+          behind (omega arith) v (decLt size (countIn form)) (decLt (length form) (13 + countIn form)) (decLt (13 + countIn form) (length form))
 
       version : Dec (length form < 2) → Dec (versionIn form ≡ current) → Comes form (readForm form)
       version (yes h) v = by (noVersion h)
@@ -58,37 +60,43 @@ module _ (form : List ℕ) where
 
 -- ---- What was written is read back
 
-pub form-length : (registers waiting : List ℕ) → length registers ≡ 9 → length (formOf registers waiting) ≡ 13 + length waiting
+pub first-nine : (saved : List ℕ) → length saved ≡ 16 → length (take 9 saved) ≡ 9
+first-nine saved long = simp length-take (omega arith)
+
+pub form-length : (saved waiting : List ℕ) → length saved ≡ 16 → length (formOf saved waiting) ≡ 13 + length waiting
 unfolding formOf bytesOf
-form-length registers waiting nine = simp (length-append, nine) (omega arith)
+form-length saved waiting long = simp (length-append, first-nine saved long) (omega arith)
 
-module _ (registers waiting : List ℕ) (nine : length registers ≡ 9) where
-  behind-registers : drop 11 (formOf registers waiting) ≡ bytesOf 2 (length waiting) ++ waiting
+module _ (saved waiting : List ℕ) (long : length saved ≡ 16) where
+  behind-registers : drop 11 (formOf saved waiting) ≡ bytesOf 2 (length waiting) ++ waiting
   unfolding formOf bytesOf
-  behind-registers = drop-at registers (bytesOf 2 (length waiting) ++ waiting) 9 nine
+  behind-registers = drop-at (take 9 saved) (bytesOf 2 (length waiting) ++ waiting) 9 (first-nine saved long)
 
-  pub registers-back : registersIn (formOf registers waiting) ≡ registers
+  pub registers-back : registersIn (formOf saved waiting) ≡ take 9 saved
   unfolding formOf bytesOf
-  registers-back = take-at registers (bytesOf 2 (length waiting) ++ waiting) 9 nine
+  registers-back = take-at (take 9 saved) (bytesOf 2 (length waiting) ++ waiting) 9 (first-nine saved long)
 
-  pub count-back : length waiting ≤ capacity → countIn (formOf registers waiting) ≡ length waiting
+  pub saved-back : spareRegisters saved ≡ freshSpareRegisters → savedIn (formOf saved waiting) ≡ saved
+  saved-back z = rw (registers-back, sym z) (take-append-drop 9 saved)
+
+  pub count-back : length waiting ≤ size → countIn (formOf saved waiting) ≡ length waiting
   unfolding bytesOf valueOf
   count-back h = rw behind-registers (omega arith)
 
-  pub waiting-back : drop 13 (formOf registers waiting) ≡ waiting
+  pub waiting-back : drop 13 (formOf saved waiting) ≡ waiting
   unfolding bytesOf
-  waiting-back = sym (drop-drop 2 11 (formOf registers waiting)) ∙ ap (drop 2) behind-registers
+  waiting-back = sym (drop-drop 2 11 (formOf saved waiting)) ∙ ap (drop 2) behind-registers
 
-  pub version-back : versionIn (formOf registers waiting) ≡ current
+  pub version-back : versionIn (formOf saved waiting) ≡ current
   unfolding formOf bytesOf valueOf
   version-back = refl
 
-  pub read-written : length waiting ≤ capacity → readForm (formOf registers waiting) ≡ reads registers waiting
-  read-written h =
-      let long = form-length registers waiting nine in
-      let few : countIn (formOf registers waiting) ≤ capacity = rw (count-back h) h in
-      let all : length (formOf registers waiting) ≡ 13 + countIn (formOf registers waiting) = rw (count-back h) long in
-      only-so (formOf registers waiting) (whole version-back few all) ∙ ap₂ reads registers-back waiting-back
+  -- where no spare register, which the form does not have, is other than 0
+  pub read-written : length waiting ≤ size → spareRegisters saved ≡ freshSpareRegisters → readForm (formOf saved waiting) ≡ reads saved waiting
+  read-written h z =
+      let few : countIn (formOf saved waiting) ≤ size = rw (count-back h) h in
+      let all : length (formOf saved waiting) ≡ 13 + countIn (formOf saved waiting) = rw (count-back h) (form-length saved waiting long) in
+      only-so (formOf saved waiting) (whole version-back few all) ∙ ap₂ reads (saved-back z) waiting-back
 
 -- ---- What is read is a state, and it is written as the same bytes
 
@@ -98,58 +106,68 @@ two-back (x ∷ []) h b = absurd (omega arith)
 two-back (x ∷ y ∷ l) h (p, (q, b)) = bytes-of-value (x ∷ y ∷ []) (p, (q, tt))
 
 module _ (form : List ℕ) where
-  fits : {registers waiting : List ℕ} → Comes form (reads registers waiting) → (length registers ≡ 9) × (length waiting ≤ capacity)
-  fits (whole v n e) = (simp (length-take, length-drop) (omega arith), simp length-drop (omega arith))
+  nine-there : 13 ≤ length form → length (registersIn form) ≡ 9
+  nine-there h = simp (length-take, length-drop) (omega arith)
 
-  agrees : {registers waiting : List ℕ} → Comes form (reads registers waiting) → length form ≡ 13 + length waiting
+  fits : {saved waiting : List ℕ} → Comes form (reads saved waiting) → (length saved ≡ 16) × (length waiting ≤ size)
+  fits (whole v n e) = (simp (length-append, nine-there (omega arith)) (omega arith), simp length-drop (omega arith))
+
+  no-spare : {saved waiting : List ℕ} → Comes form (reads saved waiting) → spareRegisters saved ≡ freshSpareRegisters
+  no-spare (whole v n e) = drop-at (registersIn form) freshSpareRegisters 9 (nine-there (omega arith))
+
+  agrees : {saved waiting : List ℕ} → Comes form (reads saved waiting) → length form ≡ 13 + length waiting
   agrees (whole v n e) = simp length-drop (omega arith)
 
-  same : {registers waiting : List ℕ} → Bytes form → Comes form (reads registers waiting) → formOf registers waiting ≡ form
+  same : {saved waiting : List ℕ} → Bytes form → Comes form (reads saved waiting) → formOf saved waiting ≡ form
   unfolding formOf
   same b (whole v n e) =
       let count : length (drop 13 form) ≡ countIn form = simp length-drop (omega arith) in
       let number : 2 ≤ length (drop 11 form) = simp length-drop (omega arith) in
       let front : bytesOf 2 current ≡ take 2 form = rw v at (two-back form (omega arith) b) in
-      rw (front, count, two-back (drop 11 form) number (bytes-drop 11 form b), ← drop-drop 2 11 form, take-append-drop 2 (drop 11 form))
+      rw (take-at (registersIn form) freshSpareRegisters 9 (nine-there (omega arith)), front, count, two-back (drop 11 form) number (bytes-drop 11 form b), ← drop-drop 2 11 form, take-append-drop 2 (drop 11 form))
       (rw (← drop-drop 9 2 form, take-append-drop 9 (drop 2 form)) (take-append-drop 2 form))
 
-module _ (form registers waiting : List ℕ) (read : readForm form ≡ reads registers waiting) where
-  outcome : Comes form (reads registers waiting)
+module _ (form saved waiting : List ℕ) (read : readForm form ≡ reads saved waiting) where
+  outcome : Comes form (reads saved waiting)
   outcome = rw read at (comes form)
 
-  pub read-fits : (length registers ≡ 9) × (length waiting ≤ capacity)
+  pub read-fits : (length saved ≡ 16) × (length waiting ≤ size)
   read-fits = fits form outcome
+
+  pub read-no-spare : spareRegisters saved ≡ freshSpareRegisters
+  read-no-spare = no-spare form outcome
 
   pub read-length : length form ≡ 13 + length waiting
   read-length = agrees form outcome
 
-  pub written-read : Bytes form → formOf registers waiting ≡ form
+  pub written-read : Bytes form → formOf saved waiting ≡ form
   written-read b = same form b outcome
 
 -- ---- Two calls
 
 -- Where there is room for the form it lies first.
-encoded : {saved waiting form form′ : List ℕ} {r : ℕ} → length waiting ≤ capacity → Encodes saved waiting form form′ r → r ≤ length form
+encoded : {saved waiting form form′ : List ℕ} {r : ℕ} → length waiting ≤ size → hasNoSpare saved ≡ true → Encodes saved waiting form form′ r → r ≤ length form
     → (r ≡ length (formOf saved waiting)) × (take r form′ ≡ formOf saved waiting)
-encoded {saved} {waiting} {form} {form′} {r} few w enough =
+encoded {saved} {waiting} {form} {form′} {r} few none w enough =
     let bytes = formOf saved waiting in
-    let answer : r ≡ length bytes = rw (le-leb _ _ few) at (w .answer) in
+    let answer : r ≡ length bytes = rw (le-leb _ _ few, none) at (w .answer) in
     let room : length bytes ≤ length form = omega arith in
-    let memory : form′ ≡ written bytes form = rw (le-leb _ _ few, le-leb _ _ room) at (w .memory) in
+    let memory : form′ ≡ written bytes form = rw (le-leb _ _ few, none, le-leb _ _ room) at (w .memory) in
     (answer, rw (answer, memory) (take-append-seam bytes (drop (length bytes) form)))
 
 -- What one has written into memory with room for it, the other reads back.
-pub there-and-back : {saved waiting form form′ saved₀ waiting₀ saved₁ waiting₁ : List ℕ} {r n : ℕ} → length saved ≡ 9 → length waiting ≤ capacity
+pub there-and-back : {saved waiting form form′ saved₀ waiting₀ saved₁ waiting₁ : List ℕ} {r n : ℕ} → length saved ≡ 16 → length waiting ≤ size
+    → spareRegisters saved ≡ freshSpareRegisters
     → Encodes saved waiting form form′ r → r ≤ length form → Decodes (readForm (take r form′)) saved₀ waiting₀ saved₁ waiting₁ n
     → (n ≡ length waiting) × ((saved₁ ≡ saved) × (waiting₁ ≡ written waiting waiting₀))
-there-and-back {saved} {waiting} {saved₀ = saved₀} {waiting₀ = waiting₀} {saved₁ = saved₁} {waiting₁ = waiting₁} {n = n} nine few w enough d =
-    let first = encoded few w enough .1 in
-    let back : Decodes (reads saved waiting) saved₀ waiting₀ saved₁ waiting₁ n = rw (first, read-written saved waiting nine few) at d in
+there-and-back {saved} {waiting} {saved₀ = saved₀} {waiting₀ = waiting₀} {saved₁ = saved₁} {waiting₁ = waiting₁} {n = n} long few z w enough d =
+    let first = encoded few (ap areZero z) w enough .1 in
+    let back : Decodes (reads saved waiting) saved₀ waiting₀ saved₁ waiting₁ n = rw (first, read-written saved waiting long few z) at d in
     (back .answer, (back .registers, back .bytes))
 
 -- What one has read, the other writes again to the same bytes. A number that may wait is no refusal.
 pub back-and-there : {form saved₀ waiting₀ saved waiting memory memory′ : List ℕ} {n r : ℕ} → Bytes form
-    → Decodes (readForm form) saved₀ waiting₀ saved waiting n → n ≤ capacity
+    → Decodes (readForm form) saved₀ waiting₀ saved waiting n → n ≤ size
     → Encodes saved (take n waiting) memory memory′ r → r ≤ length memory → (r ≡ length form) × (take r memory′ ≡ form)
 back-and-there {form} {saved₀} {waiting₀} {saved} {waiting} {memory} {memory′} {n} {r} b d few w enough = go (readForm form) refl d
   where
@@ -158,5 +176,6 @@ back-and-there {form} {saved₀} {waiting₀} {saved} {waiting} {memory} {memory
     go (reads registers waits) e d =
         let same : take n waiting ≡ waits = rw (d .answer, d .bytes) (take-append-seam waits (drop (length waits) waiting₀)) in
         let form-of : formOf saved (take n waiting) ≡ form = rw (d .registers, same) (written-read form registers waits e b) in
-        let there = encoded (rw (same, ← d .answer) few) w enough in
+        let none : hasNoSpare saved ≡ true = ap hasNoSpare (d .registers) ∙ ap areZero (read-no-spare form registers waits e) in
+        let there = encoded (rw (same, ← d .answer) few) none w enough in
         (there .0 ∙ ap length form-of, there .1 ∙ form-of)

@@ -1,25 +1,22 @@
--- A saved serial port as bytes: the version at 0, the nine registers at 2, how many bytes wait at 11, these bytes at 13. The two numbers have two
--- bytes each, lowest first.
+-- A saved serial port as bytes: the version at 0, nine registers at 2, how many bytes wait at 11, these bytes at 13. The two numbers have two
+-- bytes each, lowest first. The spare registers, all 0, are left out.
 use Prim.Native.Nat.{ℕ, _+_}
 use mathlib.Core.Bool.{cond}
 use mathlib.Core.List.{List, _++_}
 use lib.ListN.{length, take, drop}
 use lib.Dec.{ltb, eqb}
 use Rattle.common.specs.Bytes.{bytesOf, valueOf}
+use Rattle.serial.specs.Layout.{size, freshSpareRegisters}
 use Rattle.common.specs.Forms.{Reason, tooShort, trailing, version, tooMany}
 
 -- The version that is written and read.
 abbrev pub current : ℕ
 current = 2
 
--- How many bytes may wait.
-abbrev pub capacity : ℕ
-capacity = 64
-
 -- ---- Writing
 
 unfoldable pub formOf : List ℕ → List ℕ → List ℕ
-formOf registers waiting = bytesOf 2 current ++ (registers ++ (bytesOf 2 (length waiting) ++ waiting))
+formOf saved waiting = bytesOf 2 current ++ (take 9 saved ++ (bytesOf 2 (length waiting) ++ waiting))
 
 -- ---- Reading
 
@@ -34,16 +31,19 @@ versionIn form = valueOf (take 2 form)
 abbrev pub registersIn : List ℕ → List ℕ
 registersIn form = take 9 (drop 2 form)
 
+abbrev pub savedIn : List ℕ → List ℕ
+savedIn form = registersIn form ++ freshSpareRegisters
+
 abbrev pub countIn : List ℕ → ℕ
 countIn form = valueOf (take 2 (drop 11 form))
 
 -- Behind the number n bytes wait, no fewer and no more.
 unfoldable pub readBehind : ℕ → List ℕ → Read
 readBehind n form =
-    cond (ltb capacity n) (refused tooMany)
+    cond (ltb size n) (refused tooMany)
     (cond (ltb (length form) (13 + n)) (refused tooShort)
     (cond (ltb (13 + n) (length form)) (refused trailing)
-    (reads (registersIn form) (drop 13 form))))
+    (reads (savedIn form) (drop 13 form))))
 
 unfoldable pub readVersion2 : List ℕ → Read
 readVersion2 form = cond (ltb (length form) 13) (refused tooShort) (readBehind (countIn form) form)

@@ -1,23 +1,31 @@
 // A saved serial port, its registers and its waiting bytes, as a form of bytes, and back. Nothing of the caller's is trusted: any bytes are read or
 // refused, and a refusal changes nothing.
+use serial::memory;
+use serial::memory::Regs;
+use serial::memory::Ring;
+use serial::memory::are_spares_zero;
+use serial::memory::regs_len;
+use serial::memory::ring_len;
 ghost use mathlib.Core.Path.{_≡_};
 ghost use mathlib.Core.List.{[], _∷_};
 ghost use Prim.Native.Nat.{_+_, _≤_};
 ghost use lib.ListN.{length};
 ghost use lib.Seq.{sets};
 ghost use Rattle.common.specs.Bytes.{bytesOf, valueOf};
-ghost use Rattle.serial_form.specs.Form.{capacity, formOf, readForm, readVersion2, readBehind};
+ghost use Rattle.serial_form.specs.Form.{formOf, readForm, readVersion2, readBehind};
 ghost use Rattle.serial_form.specs.Calls.{Encodes, Decodes};
 
 // The version that is written and read.
 const CURRENT: usize = 2;
 
 // How many bytes may wait.
-const CAPACITY: usize = 64;
+const SIZE: usize = memory::SIZE as usize;
 
 // ---- Where the parts of a form begin
 
 const REGISTERS: usize = 2;
+
+const NINE: usize = 9;
 
 const COUNT: usize = 11;
 
@@ -33,19 +41,7 @@ const VERSION: u32 = 0x1_0003;
 
 const TOO_MANY: u32 = 0x1_0004;
 
-// ---- Arrays are as long as their types say: calls that tell a proof so, and compile to nothing
-
-fn nine(x: &[u8; 9])
-    ensures { λ r. ⌜ length (now (x .entry)) ≡ 9 ⌝ }
-{
-    let all: &[u8] = x;
-}
-
-fn whole(x: &[u8; 64])
-    ensures { λ r. ⌜ length (now (x .entry)) ≡ capacity ⌝ }
-{
-    let all: &[u8] = x;
-}
+const SPARE: u32 = 0x1_0006;
 
 // ---- Bytes and numbers
 
@@ -80,25 +76,30 @@ fn number(low: u8, high: u8) -> usize
 // ---- Writing
 
 // Writes the form; there is room for it.
-fn write(saved: &[u8; 9], waiting: &[u8], form: &mut [u8])
+fn write(saved: &Regs, waiting: &[u8], form: &mut [u8])
     requires { ⌜ 13 + length (now waiting) ≤ length (now form) ⌝ }
     ensures { λ r. ⌜ now (form .exit) ≡ sets (now (form .entry)) 0 (formOf (now (saved .entry)) (now (waiting .entry))) ⌝ }
 {
-    nine(saved);
+    regs_len(saved);
     put_number(form, 0, CURRENT);
-    put(form, REGISTERS, saved);
+    let registers: &[u8] = saved;
+    put(form, REGISTERS, &registers[0..NINE]);
     put_number(form, COUNT, waiting.len());
     put(form, WAITING, waiting);
 }
 
-// Answers how many bytes the form has, and writes it if there is room for them. More bytes than may wait are refused.
-pub fn encode(saved: &[u8; 9], waiting: &[u8], form: &mut [u8]) -> u32
+// Answers how many bytes the form has, and writes it if there is room for them. More bytes than may wait are refused,
+// and a spare register other than 0.
+pub fn encode(saved: &Regs, waiting: &[u8], form: &mut [u8]) -> u32
     ensures { λ r. ⌜ Encodes (now (saved .entry)) (now (waiting .entry)) (now (form .entry)) (now (form .exit)) r ⌝ }
 {
-    nine(saved);
+    regs_len(saved);
     let n = waiting.len();
-    if CAPACITY < n {
+    if SIZE < n {
         return TOO_MANY;
+    }
+    if !are_spares_zero(saved) {
+        return SPARE;
     }
     let len = WAITING + n;
     if form.len() < len {
@@ -111,10 +112,10 @@ pub fn encode(saved: &[u8; 9], waiting: &[u8], form: &mut [u8]) -> u32
 // ---- Reading
 
 // Behind the number n bytes wait.
-fn decode_behind(n: usize, form: &[u8], saved: &mut [u8; 9], waiting: &mut [u8; 64]) -> u32
+fn decode_behind(n: usize, form: &[u8], saved: &mut Regs, waiting: &mut Ring) -> u32
     ensures { λ r. ⌜ Decodes (readBehind n (now (form .entry))) (now (saved .entry)) (now (waiting .entry)) (now (saved .exit)) (now (waiting .exit)) r ⌝ }
 {
-    if CAPACITY < n {
+    if SIZE < n {
         return TOO_MANY;
     }
     let end = WAITING + n;
@@ -124,14 +125,16 @@ fn decode_behind(n: usize, form: &[u8], saved: &mut [u8; 9], waiting: &mut [u8; 
     if end < form.len() {
         return TRAILING;
     }
-    nine(saved);
-    whole(waiting);
+    regs_len(saved);
+    ring_len(waiting);
     put(saved, 0, &form[REGISTERS..COUNT]);
+    let spares = [0u8; 7];
+    put(saved, NINE, &spares);
     put(waiting, 0, &form[WAITING..]);
     n as u32
 }
 
-fn decode_version_2(form: &[u8], saved: &mut [u8; 9], waiting: &mut [u8; 64]) -> u32
+fn decode_version_2(form: &[u8], saved: &mut Regs, waiting: &mut Ring) -> u32
     ensures { λ r. ⌜ Decodes (readVersion2 (now (form .entry))) (now (saved .entry)) (now (waiting .entry)) (now (saved .exit)) (now (waiting .exit)) r ⌝ }
 {
     if form.len() < WAITING {
@@ -141,7 +144,7 @@ fn decode_version_2(form: &[u8], saved: &mut [u8; 9], waiting: &mut [u8; 64]) ->
 }
 
 // Answers how many bytes wait, or why the form is refused; then nothing is written.
-pub fn decode(form: &[u8], saved: &mut [u8; 9], waiting: &mut [u8; 64]) -> u32
+pub fn decode(form: &[u8], saved: &mut Regs, waiting: &mut Ring) -> u32
     ensures { λ r. ⌜ Decodes (readForm (now (form .entry))) (now (saved .entry)) (now (waiting .entry)) (now (saved .exit)) (now (waiting .exit)) r ⌝ }
 {
     if form.len() < REGISTERS {

@@ -12,7 +12,7 @@ use lib.ListN.{length, getD, take, drop}
 use lib.Seq.{take-suc}
 use Rattle.serial.specs.Port.{Port, roomOf}
 use Rattle.serial.specs.Ring.{queue}
-use Rattle.serial.specs.Layout.{capacity, portOf}
+use Rattle.serial.specs.Layout.{size, places, portOf, spareRegisters, freshSpareRegisters}
 use Rattle.serial.proofs.RingLaws.{queue-split}
 use Rattle.runs.proofs.Isolation.{memory-fits}
 use Rattle.serial_saved.specs.Saved.{savedOf}
@@ -49,14 +49,14 @@ use Rattle.serial_lines.specs.Answers.{
 abbrev pub holding : Ports → List ℕ → List ℕ → List ℕ → Ports
 holding ports regs pos ring = record { regs = regs; pos = pos; ring = ring; saved = ports .saved; waiting = ports .waiting; count = ports .count }
 
--- ---- A line that asks for nothing, and one that brings a port back
+-- ---- A line that asks for nothing, and one that restores a port
 
 unknown : (ports : Ports) {out out′ : List ℕ} {at r : ℕ} → Puts out at (text "?\n") out′ r → r ≤ at + 4096 → Answers nothing ports out at ports out′ r
 unknown ports p h = record { reached = false; tells = tt; said = p; port = refl; kept = (refl, refl, refl); short = h }
 
-brought : (ports : Ports) {saved : Port} {regs′ pos′ ring′ out out′ : List ℕ} {at r : ℕ}
-    → Brought saved (ports .regs) (ports .pos) (ports .ring) regs′ pos′ ring′ out at out′ r → r ≤ at + 4096
-    → Answers (restore saved) ports out at (holding ports regs′ pos′ ring′) out′ r
+brought : (ports : Ports) {saved : Port} {spares regs′ pos′ ring′ out out′ : List ℕ} {at r : ℕ}
+    → Brought saved spares (ports .regs) (ports .pos) (ports .ring) regs′ pos′ ring′ out at out′ r → r ≤ at + 4096
+    → Answers (restore saved spares) ports out at (holding ports regs′ pos′ ring′) out′ r
 brought ports b h =
     record { reached = b .reached; tells = b .tells; said = b .did .says; port = b .did .holds; kept = (refl, refl, refl); short = h }
 
@@ -96,72 +96,72 @@ module _ {digits bytes : List ℕ} {b : Bytes} (g : Gives digits bytes b) where
   input-bytes ports {n} e d h = rw (good n e, ← first n e) (entered ports d h)
 
   pub given-bytes : (ports : Ports) (line saved : List ℕ) {n : ℕ} {regs′ pos′ ring′ out out′ : List ℕ} {at r : ℕ} → b ≡ Are n
-      → ((w : List ℕ) → savedOf saved w ≡ givenIn line w)
-      → Brought (savedOf saved (take n bytes)) (ports .regs) (ports .pos) (ports .ring) regs′ pos′ ring′ out at out′ r → r ≤ at + 4096
-      → Answers (asksWith digits (λ w. restore (givenIn line w))) ports out at (holding ports regs′ pos′ ring′) out′ r
-  given-bytes ports line saved {n} e s d h = rw (good n e, ← first n e, ← s (take n bytes)) (brought ports d h)
+      → ((w : List ℕ) → savedOf saved w ≡ givenIn line w) → spareRegisters saved ≡ freshSpareRegisters
+      → Brought (savedOf saved (take n bytes)) (spareRegisters saved) (ports .regs) (ports .pos) (ports .ring) regs′ pos′ ring′ out at out′ r → r ≤ at + 4096
+      → Answers (asksWith digits (λ w. restore (givenIn line w) freshSpareRegisters)) ports out at (holding ports regs′ pos′ ring′) out′ r
+  given-bytes ports line saved {n} e s z d h = rw (good n e, ← first n e, ← s (take n bytes), ← z) (brought ports d h)
 
 -- ---- The port that was saved last
 
 module _ (ports : Ports) {n : ℕ} {out out′ : List ℕ} {at r : ℕ} (e : n ≡ ports .count) where
-  pub none-kept : capacity < n → Puts out at (text "?\n") out′ r → r ≤ at + 4096
-      → Answers (cond (leb (ports .count) capacity) (restore (keptIn ports)) nothing) ports out at ports out′ r
-  none-kept l p h = rw (lt-leb (ports .count) capacity (rw (← e) l)) (unknown ports p h)
+  pub none-kept : size < n → Puts out at (text "?\n") out′ r → r ≤ at + 4096
+      → Answers (cond (leb (ports .count) size) (restore (keptIn ports) (spareRegisters (ports .saved))) nothing) ports out at ports out′ r
+  none-kept l p h = rw (lt-leb (ports .count) size (rw (← e) l)) (unknown ports p h)
 
-  pub some-kept : {regs′ pos′ ring′ : List ℕ} → n ≤ capacity
-      → Brought (savedOf (ports .saved) (take (n - 0) (drop 0 (ports .waiting)))) (ports .regs) (ports .pos) (ports .ring) regs′ pos′ ring′ out at out′ r → r ≤ at + 4096
-      → Answers (cond (leb (ports .count) capacity) (restore (keptIn ports)) nothing) ports out at (holding ports regs′ pos′ ring′) out′ r
+  pub some-kept : {regs′ pos′ ring′ : List ℕ} → n ≤ size
+      → Brought (savedOf (ports .saved) (take (n - 0) (drop 0 (ports .waiting)))) (spareRegisters (ports .saved)) (ports .regs) (ports .pos) (ports .ring) regs′ pos′ ring′ out at out′ r → r ≤ at + 4096
+      → Answers (cond (leb (ports .count) size) (restore (keptIn ports) (spareRegisters (ports .saved))) nothing) ports out at (holding ports regs′ pos′ ring′) out′ r
   some-kept l b h =
       let z : n - 0 ≡ ports .count = omega arith in
-      rw (le-leb (ports .count) capacity (rw (← e) l)) (brought ports (rw z at b) h)
+      rw (le-leb (ports .count) size (rw (← e) l)) (brought ports (rw z at b) h)
 
 -- ---- One line about saved states
 
 -- the first bytes, one by one, are those from the first place on
-none-from : (waiting : List ℕ) → queue capacity waiting 0 0 ≡ []
+none-from : (waiting : List ℕ) → queue places waiting 0 0 ≡ []
 unfolding queue
 none-from waiting = refl
 
-one-from : (waiting : List ℕ) (n : ℕ) → n < capacity → queue capacity waiting 0 (suc n) ≡ queue capacity waiting 0 n ++ (getD waiting n 0 ∷ [])
+one-from : (waiting : List ℕ) (n : ℕ) → n < places → queue places waiting 0 (suc n) ≡ queue places waiting 0 n ++ (getD waiting n 0 ∷ [])
 unfolding queue
 one-from waiting n h =
-    let place : (0 + n) % 64 ≡ n = omega arith in
-    ap (queue capacity waiting 0) (sym (add-one n)) ∙ queue-split capacity waiting 0 n 1 ∙
-    ap (λ (i : ℕ). queue capacity waiting 0 n ++ (getD waiting i 0 ∷ [])) place
+    let place : (0 + n) % places ≡ n = omega arith in
+    ap (queue places waiting 0) (sym (add-one n)) ∙ queue-split places waiting 0 n 1 ∙
+    ap (λ (i : ℕ). queue places waiting 0 n ++ (getD waiting i 0 ∷ [])) place
 
-from-first : (waiting : List ℕ) (n : ℕ) → n ≤ capacity → n ≤ length waiting → queue capacity waiting 0 n ≡ take n waiting
+from-first : (waiting : List ℕ) (n : ℕ) → n ≤ places → n ≤ length waiting → queue places waiting 0 n ≡ take n waiting
 from-first waiting zero h l = none-from waiting
 from-first waiting (suc n) h l =
     one-from waiting n (omega arith) ∙ rw (from-first waiting n (omega arith) (omega arith)) (sym (take-suc waiting n 0 (omega arith)))
 
 module _ (line : List ℕ) (ports : Ports) {out out′ : List ℕ} {at r : ℕ} where
   pub by-save : {saved′ waiting′ o₁ : List ℕ} {count′ n a : ℕ} → fitsOf (text "save") line ≡ true
-      → Saves (ports .regs) (ports .pos) (ports .ring) (ports .waiting) saved′ waiting′ count′ → length waiting′ ≡ capacity → n ≡ min count′ 64 → Puts out at (text "save") o₁ a
-      → Puts o₁ a (portSays (savedOf saved′ (queue capacity waiting′ 0 n))) out′ r → r ≤ at + 4096
+      → Saves (ports .regs) (ports .pos) (ports .ring) (ports .waiting) saved′ waiting′ count′ → length waiting′ ≡ places → n ≡ min count′ size → Puts out at (text "save") o₁ a
+      → Puts o₁ a (portSays (savedOf saved′ (queue places waiting′ 0 n))) out′ r → r ≤ at + 4096
       → Answers (asksSaved ports line) ports out at (record { regs = ports .regs; pos = ports .pos; ring = ports .ring; saved = saved′; waiting = waiting′; count = count′ }) out′ r
   unfolding asksSaved
   by-save {saved′} {waiting′} {count′ = count′} {n = n} f s l e p q h =
-      let few : count′ ≤ capacity = rw (s .number) (memory-fits (ports .regs) (ports .pos) (ports .ring)) in
+      let few : count′ ≤ size = rw (s .number) (memory-fits (ports .regs) (ports .pos) (ports .ring)) in
       let same : n ≡ count′ = omega arith in
-      let port : savedOf saved′ (queue capacity waiting′ 0 n) ≡ portIn ports = rw (same, from-first waiting′ count′ few (rw l few)) (s .holds) in
+      let port : savedOf saved′ (queue places waiting′ 0 n) ≡ portIn ports = rw (same, from-first waiting′ count′ (omega arith) (omega (arith, l))) (s .holds) in
       rw f (record { reached = false; tells = tt; said = rw (← port) (both p q); port = refl; kept = (few, s .holds); short = h })
 
 module _ (line : List ℕ) (ports : Ports) {out out′ : List ℕ} {at r : ℕ} (no-save : fitsOf (text "save") line ≡ false) where
   pub by-kept : {ports′ : Ports} → fitsOf (text "restore") line ≡ true
-      → Answers (cond (leb (ports .count) capacity) (restore (keptIn ports)) nothing) ports out at ports′ out′ r → Answers (asksSaved ports line) ports out at ports′ out′ r
+      → Answers (cond (leb (ports .count) size) (restore (keptIn ports) (spareRegisters (ports .saved))) nothing) ports out at ports′ out′ r → Answers (asksSaved ports line) ports out at ports′ out′ r
   unfolding asksSaved
   by-kept f b = rw (no-save, f) b
 
 module _ (line : List ℕ) (ports : Ports) {out out′ : List ℕ} {at r : ℕ} (no-save : fitsOf (text "save") line ≡ false) (no-kept : fitsOf (text "restore") line ≡ false) where
   pub by-registers : (saved : List ℕ) {regs′ pos′ ring′ : List ℕ} → fitsOf (text "restore DD DD DD DD DD DD DD DD DD -") line ≡ true
-      → ((w : List ℕ) → savedOf saved w ≡ givenIn line w) → Brought (savedOf saved []) (ports .regs) (ports .pos) (ports .ring) regs′ pos′ ring′ out at out′ r → r ≤ at + 4096
+      → ((w : List ℕ) → savedOf saved w ≡ givenIn line w) → spareRegisters saved ≡ freshSpareRegisters → Brought (savedOf saved []) (spareRegisters saved) (ports .regs) (ports .pos) (ports .ring) regs′ pos′ ring′ out at out′ r → r ≤ at + 4096
       → Answers (asksSaved ports line) ports out at (holding ports regs′ pos′ ring′) out′ r
   unfolding asksSaved
-  by-registers saved f s b h = rw (no-save, no-kept, f, ← s []) (brought ports b h)
+  by-registers saved f s z b h = rw (no-save, no-kept, f, ← s [], ← z) (brought ports b h)
 
   module _ (no-registers : fitsOf (text "restore DD DD DD DD DD DD DD DD DD -") line ≡ false) where
     pub by-given : {ports′ : Ports} → beginsLike (text "restore DD DD DD DD DD DD DD DD DD ") line ≡ true
-        → Answers (asksWith (drop 35 line) (λ w. restore (givenIn line w))) ports out at ports′ out′ r → Answers (asksSaved ports line) ports out at ports′ out′ r
+        → Answers (asksWith (drop 35 line) (λ w. restore (givenIn line w) freshSpareRegisters)) ports out at ports′ out′ r → Answers (asksSaved ports line) ports out at ports′ out′ r
     unfolding asksSaved
     by-given f b = rw (no-save, no-kept, no-registers, f) b
 

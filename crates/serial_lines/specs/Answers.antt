@@ -8,8 +8,8 @@ use lib.Dec.{leb}
 use lib.ListN.{length, take, drop}
 use Rattle.common.specs.Lists.{some}
 use Rattle.serial.specs.Port.{Port, Out, Input, readOf, writeOf, inputOf, roomOf}
-use Rattle.serial.specs.Layout.{capacity, portOf}
-use Rattle.serial.specs.Calls.{readWord}
+use Rattle.serial.specs.Layout.{size, portOf, spareRegisters, freshSpareRegisters}
+use Rattle.serial.specs.Calls.{oneRaise, readWord}
 use Rattle.runs.specs.Reachable.{Reachable}
 use Rattle.serial_saved.specs.Saved.{Restore, savedOf, restoreOf}
 use Rattle.words.specs.Decimal.{decimalOf}
@@ -25,18 +25,18 @@ portsOf regs pos ring saved waiting count = record { regs = regs; pos = pos; rin
 abbrev pub portIn : Ports → Port
 portIn ports = portOf (ports .regs) (ports .pos) (ports .ring)
 
--- A number above the capacity says that none was saved.
+-- A number above the size says that none was saved.
 abbrev pub keptIn : Ports → Port
 keptIn ports = savedOf (ports .saved) (take (ports .count) (ports .waiting))
 
--- ---- What a line asks for
+-- ---- What a line asks for. A port to restore has its spare registers beside it.
 
 pub data Asks : Type 0 where
   read : ℕ → Asks
   write : ℕ → ℕ → Asks
   input : List ℕ → Asks
   showRoom showState save : Asks
-  restore : Port → Asks
+  restore : Port → List ℕ → Asks
   nothing : Asks
 
 -- A line that ends with bytes, two digits each.
@@ -58,16 +58,16 @@ givenIn line bytes = record {
   lsr = byteAt line 23;
   msr = byteAt line 29;
   waiting = bytes;
-  size = capacity;
+  size = size;
 }
 
 -- `restore` alone asks for the port that was saved last.
 unfoldable pub asksSaved : Ports → List ℕ → Asks
 asksSaved ports line =
     cond (fitsOf (text "save") line) save
-    (cond (fitsOf (text "restore") line) (cond (leb (ports .count) capacity) (restore (keptIn ports)) nothing)
-    (cond (fitsOf (text "restore DD DD DD DD DD DD DD DD DD -") line) (restore (givenIn line []))
-    (cond (beginsLike (text "restore DD DD DD DD DD DD DD DD DD ") line) (asksWith (drop 35 line) (λ bytes. restore (givenIn line bytes))) nothing)))
+    (cond (fitsOf (text "restore") line) (cond (leb (ports .count) size) (restore (keptIn ports) (spareRegisters (ports .saved))) nothing)
+    (cond (fitsOf (text "restore DD DD DD DD DD DD DD DD DD -") line) (restore (givenIn line []) freshSpareRegisters)
+    (cond (beginsLike (text "restore DD DD DD DD DD DD DD DD DD ") line) (asksWith (drop 35 line) (λ bytes. restore (givenIn line bytes) freshSpareRegisters)) nothing)))
 
 unfoldable pub asks : Ports → List ℕ → Asks
 asks ports line =
@@ -87,7 +87,7 @@ raisesSay raises = text " " ++ decimalOf raises ++ text "\n"
 
 -- After a read: the parts of the word that the call answers. Where the reply is a byte they are the reply and the raises (`read-plainly`).
 abbrev pub readSays : Out → List ℕ
-readSays o = text "r " ++ digitsOf (readWord o % 256) ++ raisesSay (readWord o / 512)
+readSays o = text "r " ++ digitsOf (readWord o % 256) ++ raisesSay (readWord o / oneRaise)
 
 -- After a write: the byte that was sent, or that there was none.
 abbrev pub sentSays : List ℕ → List ℕ
@@ -137,12 +137,15 @@ says (input bytes) p reached = inputSays (inputOf p bytes)
 says showRoom p reached = roomSays (roomOf p)
 says showState p reached = text "state" ++ portSays p
 says save p reached = text "save" ++ portSays p
-says (restore saved) p reached = restoreSays (restoreOf p saved) reached
+says (restore saved spares) p reached = restoreSays (restoreOf p saved) reached
 says nothing p reached = text "?\n"
 
--- What `reached` is where a port is brought back: whether a run from a fresh one could have come to it.
+-- What `reached` is where a port is restored: whether a run from a fresh one could have come to it.
+abbrev pub Reached : Port → List ℕ → Type 0
+Reached saved spares = Reachable size saved × (spares ≡ freshSpareRegisters)
+
 abbrev pub Tells : Asks → Bool → Type 0
-Tells (restore saved) reached = (reached ≡ true) ↔ Reachable capacity saved
+Tells (restore saved spares) reached = (reached ≡ true) ↔ Reached saved spares
 Tells (read offset) reached = Unit {0}
 Tells (write offset value) reached = Unit {0}
 Tells (input bytes) reached = Unit {0}
@@ -160,7 +163,7 @@ portThen (input bytes) p = inputOf p bytes .port
 portThen showRoom p = p
 portThen showState p = p
 portThen save p = p
-portThen (restore saved) p = restoreOf p saved .port
+portThen (restore saved spares) p = restoreOf p saved .port
 portThen nothing p = p
 
 abbrev pub isSave : Asks → Bool
@@ -170,12 +173,12 @@ isSave (input bytes) = false
 isSave showRoom = false
 isSave showState = false
 isSave save = true
-isSave (restore saved) = false
+isSave (restore saved spares) = false
 isSave nothing = false
 
 -- After `save` the port is kept, and after every other line what was kept before.
 abbrev pub Keeps : Bool → Ports → Ports → Type 0
-Keeps true ports ports′ = (ports′ .count ≤ capacity) × (keptIn ports′ ≡ portIn ports)
+Keeps true ports ports′ = (ports′ .count ≤ size) × (keptIn ports′ ≡ portIn ports)
 Keeps false ports ports′ = (ports′ .saved ≡ ports .saved) × (ports′ .waiting ≡ ports .waiting) × (ports′ .count ≡ ports .count)
 
 -- A call was answered: what was said, and the port that the memory holds.
@@ -195,10 +198,10 @@ abbrev pub DidInput : List ℕ → List ℕ → List ℕ → List ℕ → List �
 DidInput bytes regs pos ring regs′ pos′ ring′ out at out′ r =
     let i = inputOf (portOf regs pos ring) bytes in Did (inputSays i) (i .port) regs′ pos′ ring′ out at out′ r
 
--- A port was brought back.
-pub record Brought (saved : Port) (regs pos ring regs′ pos′ ring′ out : List ℕ) (at : ℕ) (out′ : List ℕ) (r : ℕ) : Type 0 where
+-- A port was restored.
+pub record Brought (saved : Port) (spares regs pos ring regs′ pos′ ring′ out : List ℕ) (at : ℕ) (out′ : List ℕ) (r : ℕ) : Type 0 where
   pub reached : Bool
-  pub tells : (reached ≡ true) ↔ Reachable capacity saved
+  pub tells : (reached ≡ true) ↔ Reached saved spares
   pub did : Did (restoreSays (restoreOf (portOf regs pos ring) saved) reached) (restoreOf (portOf regs pos ring) saved .port) regs′ pos′ ring′ out at out′ r
 
 -- What a line asks for was answered.

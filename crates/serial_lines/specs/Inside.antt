@@ -3,14 +3,15 @@ use Prim.Native.Nat.{ℕ, _%_}
 use mathlib.Core.Bool.{cond}
 use mathlib.Core.List.{List}
 use lib.Dec.{ltb}
+use Rattle.serial.specs.Calls.{refusedBit, sentBit}
 use Rattle.words.specs.Decimal.{decimalOf}
 use Rattle.words.specs.Hex.{digitsOf}
 use Rattle.words.specs.Text.{text}
 
--- The byte that was sent, behind 256, or a number below that for none.
+-- The byte that was sent and its bit, or a number below that for none.
 abbrev pub sentPart : ℕ → List ℕ
-sentPart sent = cond (ltb sent 256) (text "--") (digitsOf (sent % 256))
+sentPart sent = cond (ltb sent sentBit) (text "--") (digitsOf (sent % 256))
 
--- How many bytes were taken, or a number from 0x1_0000 on for a full buffer.
+-- How many bytes were taken, or a number from the bit of refusal on for a full port.
 abbrev pub takenPart : ℕ → List ℕ
-takenPart taken = cond (ltb taken 0x1_0000) (decimalOf taken) (text "full")
+takenPart taken = cond (ltb taken refusedBit) (decimalOf taken) (text "full")

@@ -1,6 +1,24 @@
 // The lines of the serial port.
 mod saved;
 
+use serial::answer::ONE_RAISE;
+use serial::answer::REFUSED;
+use serial::answer::SENT;
+use serial::memory;
+use serial::memory::COUNT;
+use serial::memory::DLL;
+use serial::memory::DLM;
+use serial::memory::IER;
+use serial::memory::IIR;
+use serial::memory::LCR;
+use serial::memory::LSR;
+use serial::memory::MCR;
+use serial::memory::MSR;
+use serial::memory::Pos;
+use serial::memory::Regs;
+use serial::memory::Ring;
+use serial::memory::SCR;
+use serial::memory::START;
 use words::Block;
 use words::decimal::put_decimal;
 use words::hex::Bytes;
@@ -16,8 +34,8 @@ ghost use mathlib.Core.Path.{_≡_};
 ghost use mathlib.Core.Bool.{false};
 ghost use mathlib.Core.List.{List, _++_};
 ghost use lib.ListN.{drop};
-ghost use Rattle.serial.specs.Calls.{Begins};
-ghost use Rattle.serial.specs.Layout.{capacity, portOf};
+ghost use Rattle.serial.specs.Calls.{MakesFresh};
+ghost use Rattle.serial.specs.Layout.{size, places, portOf};
 ghost use Rattle.serial.specs.Port.{roomOf};
 ghost use Rattle.serial.specs.Ring.{queue};
 ghost use Rattle.serial_saved.specs.Saved.{savedOf};
@@ -27,19 +45,13 @@ ghost use Rattle.serial_lines.specs.Answers.{Answers, AnswersLine, Keeps
 ghost use Rattle.serial_lines.specs.Inside.{sentPart, takenPart};
 ghost use Rattle.serial_lines.specs.Answers.{nextByte, bytesSay, registersSay, waitingSay, portSays};
 
-// The memory of a serial port: its registers, where its waiting bytes start and how many there are,
-// and they.
-pub type Regs = [u8; 9];
-
-pub type Pos = [u32; 2];
-
-pub type Ring = [u8; 64];
-
 // As many bytes may wait.
-const CAPACITY: usize = 64;
+const SIZE: usize = memory::SIZE as usize;
+
+const PLACES: usize = memory::PLACES as usize;
 
 // The serial port, in `regs`, `pos` and `ring`, and the one that was saved last: its registers, its
-// waiting bytes, and how many there are, or more than `CAPACITY` where none was saved yet.
+// waiting bytes, and how many there are, or more than `SIZE` where none was saved yet.
 pub struct Ports {
     pub regs: Regs,
     pub pos: Pos,
@@ -57,21 +69,21 @@ pub struct Said {
 
 // No port was begun and none saved.
 pub fn start() -> Ports
-    ensures { λ r. ⌜ capacity < r .count ⌝ }
+    ensures { λ r. ⌜ size < r .count ⌝ }
 {
     Ports {
-        regs: [0; 9],
-        pos: [0; 2],
-        ring: [0; 64],
-        saved: [0; 9],
-        waiting: [0; 64],
-        count: CAPACITY as u32 + 1,
+        regs: [0; 16],
+        pos: [0; 4],
+        ring: [0; 1024],
+        saved: [0; 16],
+        waiting: [0; 1024],
+        count: SIZE as u32 + 1,
     }
 }
 
 // Makes the serial port a fresh one, and leaves what was saved.
 pub fn begin(ports: Ports) -> Ports
-    ensures { λ r. ⌜ Begins (r .regs) (r .pos) ⌝ }
+    ensures { λ r. ⌜ MakesFresh (r .regs) (r .pos) ⌝ }
     ensures { λ r. ⌜ Keeps false ports r ⌝ }
 {
     let mut regs = ports.regs;
@@ -174,8 +186,8 @@ fn write(
 {
     let does = serial::write(regs, pos, ring, offset, value);
     let a = put(out, at, b"w ");
-    let b = put_sent(out, a, does % 512);
-    put_raises(out, b, does / 512)
+    let b = put_sent(out, a, does % ONE_RAISE);
+    put_raises(out, b, does / ONE_RAISE)
 }
 
 fn read(
@@ -193,16 +205,16 @@ fn read(
     let reply = serial::read(regs, pos, ring, offset);
     let a = put(out, at, b"r ");
     let b = put_byte(out, a, (reply % 256) as u8);
-    put_raises(out, b, reply / 512)
+    put_raises(out, b, reply / ONE_RAISE)
 }
 
-// The byte that was sent, behind 256, or a number below that for none.
+// The byte that was sent and `SENT`, or a number below that for none.
 fn put_sent(out: &mut Block, at: usize, sent: u32) -> usize
     requires { ⌜ at + 2 ≤ 65536 ⌝ }
     ensures { λ r. ⌜ Puts (now (out .entry)) at (sentPart sent) (now (out .exit)) r ⌝ }
     ensures { λ r. ⌜ r ≤ at + 2 ⌝ }
 {
-    if sent < 256 {
+    if sent < SENT {
         return put(out, at, b"--");
     }
     put_byte(out, at, (sent % 256) as u8)
@@ -253,17 +265,17 @@ fn input(
 {
     let took = serial::input(regs, pos, ring, bytes);
     let a = put(out, at, b"b ");
-    let b = put_taken(out, a, took % 0x2_0000);
-    put_raises(out, b, took / 0x2_0000)
+    let b = put_taken(out, a, took % ONE_RAISE);
+    put_raises(out, b, took / ONE_RAISE)
 }
 
-// How many bytes were taken, or a number from 0x1_0000 on for a full buffer.
+// How many bytes were taken, or a number from `REFUSED` on for a full port.
 fn put_taken(out: &mut Block, at: usize, taken: u32) -> usize
     requires { ⌜ at + 20 ≤ 65536 ⌝ }
     ensures { λ r. ⌜ Puts (now (out .entry)) at (takenPart taken) (now (out .exit)) r ⌝ }
     ensures { λ r. ⌜ r ≤ at + 20 ⌝ }
 {
-    if taken < 0x1_0000 {
+    if taken < REFUSED {
         return put_decimal(out, at, taken);
     }
     put(out, at, b"full")
@@ -285,15 +297,22 @@ fn state(regs: &Regs, pos: &Pos, ring: &Ring, out: &mut Block, at: usize) -> usi
     ensures { λ r. ⌜ r ≤ at + 4096 ⌝ }
 {
     let a = put(out, at, b"state");
-    put_port(out, a, regs, wide(pos[0]) % CAPACITY, capped(pos[1]), ring)
+    put_port(
+        out,
+        a,
+        regs,
+        wide(pos[START]) % PLACES,
+        capped(pos[COUNT]),
+        ring,
+    )
 }
 
 // Ends an answer with a port: its registers, and `count` bytes of its ring from `start` on.
 fn put_port(out: &mut Block, at: usize, regs: &Regs, start: usize, count: u32, ring: &Ring) -> usize
     requires { ⌜ at + 283 ≤ 65536 ⌝ }
-    requires { ⌜ start < 64 ⌝ }
-    requires { ⌜ count ≤ 64 ⌝ }
-    ensures { λ r. ⌜ Puts (now (out .entry)) at (portSays (savedOf (now (regs .entry)) (queue capacity (now (ring .entry)) start count))) (now (out .exit)) r ⌝ }
+    requires { ⌜ start < places ⌝ }
+    requires { ⌜ count ≤ size ⌝ }
+    ensures { λ r. ⌜ Puts (now (out .entry)) at (portSays (savedOf (now (regs .entry)) (queue places (now (ring .entry)) start count))) (now (out .exit)) r ⌝ }
     ensures { λ r. ⌜ r ≤ at + 283 ⌝ }
 {
     let a = put_regs(out, at, regs);
@@ -306,9 +325,9 @@ fn put_regs(out: &mut Block, at: usize, regs: &Regs) -> usize
     ensures { λ r. ⌜ ((waiting : List ℕ) → Puts (now (out .entry)) at (registersSay (savedOf (now (regs .entry)) waiting)) (now (out .exit)) r) ⌝ }
     ensures { λ r. ⌜ r ≤ at + 27 ⌝ }
 {
-    let a = put_three(out, at, regs[0], regs[8], regs[1]);
-    let b = put_three(out, a, regs[2], regs[3], regs[5]);
-    put_three(out, b, regs[4], regs[6], regs[7])
+    let a = put_three(out, at, regs[DLL], regs[DLM], regs[IER]);
+    let b = put_three(out, a, regs[IIR], regs[LCR], regs[LSR]);
+    put_three(out, b, regs[MCR], regs[MSR], regs[SCR])
 }
 
 // Puts three bytes, each behind a space.
@@ -335,9 +354,9 @@ fn put_next(out: &mut Block, at: usize, byte: u8) -> usize
 // Ends an answer with the bytes that wait: their number, and they in order from `start` on, or `-`.
 fn put_waiting(out: &mut Block, at: usize, start: usize, count: u32, ring: &Ring) -> usize
     requires { ⌜ at + 256 ≤ 65536 ⌝ }
-    requires { ⌜ start < 64 ⌝ }
-    requires { ⌜ count ≤ 64 ⌝ }
-    ensures { λ r. ⌜ Puts (now (out .entry)) at (waitingSay (queue capacity (now (ring .entry)) start count)) (now (out .exit)) r ⌝ }
+    requires { ⌜ start < places ⌝ }
+    requires { ⌜ count ≤ size ⌝ }
+    ensures { λ r. ⌜ Puts (now (out .entry)) at (waitingSay (queue places (now (ring .entry)) start count)) (now (out .exit)) r ⌝ }
     ensures { λ r. ⌜ r ≤ at + 256 ⌝ }
 {
     let a = put(out, at, b" ");
@@ -353,29 +372,29 @@ fn put_waiting(out: &mut Block, at: usize, start: usize, count: u32, ring: &Ring
 // Puts the digits of `count` bytes of a ring from `start` on.
 fn put_ring(out: &mut Block, at: usize, start: usize, count: usize, ring: &Ring) -> usize
     requires { ⌜ at + 128 ≤ 65536 ⌝ }
-    requires { ⌜ start < 64 ⌝ }
-    requires { ⌜ count ≤ 64 ⌝ }
-    ensures { λ r. ⌜ Puts (now (out .entry)) at (bytesSay (queue capacity (now (ring .entry)) start count)) (now (out .exit)) r ⌝ }
+    requires { ⌜ start < places ⌝ }
+    requires { ⌜ count ≤ size ⌝ }
+    ensures { λ r. ⌜ Puts (now (out .entry)) at (bytesSay (queue places (now (ring .entry)) start count)) (now (out .exit)) r ⌝ }
     ensures { λ r. ⌜ r ≤ at + 128 ⌝ }
 {
     let mut i = 0;
     let mut next = at;
     while i < count {
-        next = put_byte(out, next, ring[(start + i) % CAPACITY]);
+        next = put_byte(out, next, ring[(start + i) % PLACES]);
         i += 1;
     }
     next
 }
 
-// No more than `CAPACITY` bytes wait, whatever the count says.
+// No more than `SIZE` bytes wait, whatever the count says.
 fn capped(count: u32) -> u32
-    ensures { λ r. ⌜ r ≡ min count 64 ⌝ }
-    ensures { λ r. ⌜ r ≤ 64 ⌝ }
+    ensures { λ r. ⌜ r ≡ min count size ⌝ }
+    ensures { λ r. ⌜ r ≤ size ⌝ }
 {
-    if count < CAPACITY as u32 {
+    if count < SIZE as u32 {
         return count;
     }
-    CAPACITY as u32
+    SIZE as u32
 }
 
 fn wide(x: u32) -> usize

@@ -1,12 +1,15 @@
-// The lines that write the serial port down and bring it back.
-use crate::CAPACITY;
-use crate::Pos;
-use crate::Regs;
-use crate::Ring;
+// The lines that save the serial port and restore it.
+use crate::SIZE;
 use crate::capped;
 use crate::put_port;
 use crate::wide;
+use serial::answer::ONE_RAISE;
+use serial::answer::REACHABLE;
+use serial::answer::REFUSED;
 use serial::memory;
+use serial::memory::Pos;
+use serial::memory::Regs;
+use serial::memory::Ring;
 use words::Block;
 use words::decimal::put_decimal;
 use words::hex::Bytes;
@@ -22,7 +25,7 @@ ghost use mathlib.Core.Bool.{cond};
 ghost use mathlib.Core.List.{List};
 ghost use lib.Dec.{leb};
 ghost use lib.ListN.{take, drop};
-ghost use Rattle.serial.specs.Layout.{capacity};
+ghost use Rattle.serial.specs.Layout.{size, spareRegisters, freshSpareRegisters};
 ghost use Rattle.serial_saved.specs.Saved.{savedOf};
 ghost use Rattle.serial_lines.specs.Answers.{Answers, AnswersLine, Brought, portsOf, asksSaved, asksWith, givenIn, restore, nothing};
 
@@ -43,7 +46,7 @@ pub fn answer(
 {
     if fits(line, b"save") {
         *count = serial_saved::save(regs, pos, ring, saved, waiting);
-        memory::whole(waiting);
+        memory::ring_len(waiting);
         let a = put(out, at, b"save");
         return put_port(out, a, saved, 0, capped(*count), waiting);
     }
@@ -72,11 +75,11 @@ fn restore_kept(
     at: usize,
 ) -> usize
     requires { ⌜ at + 4096 ≤ 65536 ⌝ }
-    ensures { λ r. ⌜ Answers (cond (leb count capacity) (restore (savedOf (now (saved .entry)) (take count (now (waiting .entry))))) nothing) (portsOf (now (regs .entry)) (now (pos .entry)) (now (ring .entry)) (now (saved .entry)) (now (waiting .entry)) count) (now (out .entry)) at (portsOf (now (regs .exit)) (now (pos .exit)) (now (ring .exit)) (now (saved .entry)) (now (waiting .entry)) count) (now (out .exit)) r ⌝ }
+    ensures { λ r. ⌜ Answers (cond (leb count size) (restore (savedOf (now (saved .entry)) (take count (now (waiting .entry)))) (spareRegisters (now (saved .entry)))) nothing) (portsOf (now (regs .entry)) (now (pos .entry)) (now (ring .entry)) (now (saved .entry)) (now (waiting .entry)) count) (now (out .entry)) at (portsOf (now (regs .exit)) (now (pos .exit)) (now (ring .exit)) (now (saved .entry)) (now (waiting .entry)) count) (now (out .exit)) r ⌝ }
     ensures { λ r. ⌜ r ≤ at + 4096 ⌝ }
 {
     let n = wide(count);
-    if n > CAPACITY {
+    if n > SIZE {
         return unknown(out, at);
     }
     let all: &[u8] = waiting;
@@ -93,7 +96,7 @@ fn restore_given(
     at: usize,
 ) -> usize
     requires { ⌜ at + 4096 ≤ 65536 ⌝ }
-    ensures { λ r. ⌜ ((saved waiting : List ℕ) (count : ℕ) → Answers (asksWith (drop 35 (now (line .entry))) (λ bytes. restore (givenIn (now (line .entry)) bytes))) (portsOf (now (regs .entry)) (now (pos .entry)) (now (ring .entry)) saved waiting count) (now (out .entry)) at (portsOf (now (regs .exit)) (now (pos .exit)) (now (ring .exit)) saved waiting count) (now (out .exit)) r) ⌝ }
+    ensures { λ r. ⌜ ((saved waiting : List ℕ) (count : ℕ) → Answers (asksWith (drop 35 (now (line .entry))) (λ bytes. restore (givenIn (now (line .entry)) bytes) freshSpareRegisters)) (portsOf (now (regs .entry)) (now (pos .entry)) (now (ring .entry)) saved waiting count) (now (out .entry)) at (portsOf (now (regs .exit)) (now (pos .exit)) (now (ring .exit)) saved waiting count) (now (out .exit)) r) ⌝ }
     ensures { λ r. ⌜ r ≤ at + 4096 ⌝ }
 {
     let mut bytes = io::buffer();
@@ -104,9 +107,10 @@ fn restore_given(
     restore(regs, pos, ring, &given, &bytes[..count], out, at)
 }
 
-// The nine registers of such a line, in the order in which they lie in memory.
-fn regs_in(line: &[u8]) -> [u8; 9]
+// The registers of such a line, in the order in which they lie in memory; the spare ones are 0.
+fn regs_in(line: &[u8]) -> Regs
     ensures { λ r. ⌜ ((waiting : List ℕ) → savedOf r waiting ≡ givenIn (now (line .entry)) waiting) ⌝ }
+    ensures { λ r. ⌜ spareRegisters r ≡ freshSpareRegisters ⌝ }
 {
     [
         byte_at(line, 8),
@@ -118,6 +122,13 @@ fn regs_in(line: &[u8]) -> [u8; 9]
         byte_at(line, 29),
         byte_at(line, 32),
         byte_at(line, 11),
+        0,
+        0,
+        0,
+        0,
+        0,
+        0,
+        0,
     ]
 }
 
@@ -131,16 +142,16 @@ fn restore(
     at: usize,
 ) -> usize
     requires { ⌜ at + 4096 ≤ 65536 ⌝ }
-    ensures { λ r. ⌜ Brought (savedOf (now (saved .entry)) (now (waiting .entry))) (now (regs .entry)) (now (pos .entry)) (now (ring .entry)) (now (regs .exit)) (now (pos .exit)) (now (ring .exit)) (now (out .entry)) at (now (out .exit)) r ⌝ }
+    ensures { λ r. ⌜ Brought (savedOf (now (saved .entry)) (now (waiting .entry))) (spareRegisters (now (saved .entry))) (now (regs .entry)) (now (pos .entry)) (now (ring .entry)) (now (regs .exit)) (now (pos .exit)) (now (ring .exit)) (now (out .entry)) at (now (out .exit)) r ⌝ }
     ensures { λ r. ⌜ r ≤ at + 4096 ⌝ }
 {
     let brought = serial_saved::restore(regs, pos, ring, saved, waiting);
-    if brought == 0x1_0000 {
+    if brought == REFUSED {
         return put(out, at, b"restore full\n");
     }
     let a = put(out, at, b"restore ");
-    let b = put_decimal(out, a, brought / 0x2_0000);
-    if brought % 2 == 1 {
+    let b = put_decimal(out, a, brought / ONE_RAISE);
+    if brought / REACHABLE % 2 == 1 {
         return put(out, b, b" reached\n");
     }
     put(out, b, b" unreached\n")

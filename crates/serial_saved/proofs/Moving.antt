@@ -1,4 +1,4 @@
--- Bytes are moved: nine registers to another place, those that wait out of the ring's order.
+-- Bytes are moved: registers to another place, those that wait out of the ring's order.
 -- Assumes nothing.
 use mathlib.Core.Path.{_≡_, refl, sym, ap, _∙_}
 use mathlib.Core.List.{List, [], _∷_, _++_, append-nil}
@@ -9,7 +9,7 @@ use native.Mathlib.Omega.{arith}
 use lib.ListN.{length, getD, set, take, drop, length-set}
 use lib.Seq.{take-length, drop-length, take-suc-set, drop-set-lt, drop-drop}
 use Rattle.serial.specs.Ring.{queue}
-use Rattle.serial.specs.Layout.{capacity}
+use Rattle.serial.specs.Layout.{size, places}
 use Rattle.serial.proofs.RingLaws.{queue-split}
 use Rattle.serial_saved.specs.Inside.{Unrolled}
 
@@ -26,17 +26,17 @@ all-copied from to to′ n f t e =
 
 -- i of n bytes lie there
 pub record SoFar (ring : List ℕ) (start n : ℕ) (waiting₀ waiting : List ℕ) (i : ℕ) : Type 0 where
-  pub long : length waiting ≡ capacity
+  pub long : length waiting ≡ places
   pub far : i ≤ n
   pub there : Unrolled ring start i waiting₀ waiting
 
 module _ (ring : List ℕ) (start n : ℕ) (waiting₀ : List ℕ) where
-  pub none-yet : length waiting₀ ≡ capacity → SoFar ring start n waiting₀ waiting₀ 0
+  pub none-yet : length waiting₀ ≡ places → SoFar ring start n waiting₀ waiting₀ 0
   unfolding queue
   none-yet l = record { long = l; far = omega arith; there = record { bytes = refl; others = refl } }
 
-  pub one-more : (waiting : List ℕ) (i : ℕ) → n ≤ capacity → i < n → SoFar ring start n waiting₀ waiting i
-      → SoFar ring start n waiting₀ (set waiting i (getD ring ((start % capacity + i) % capacity) 0)) (i + 1)
+  pub one-more : (waiting : List ℕ) (i : ℕ) → n ≤ size → i < n → SoFar ring start n waiting₀ waiting i
+      → SoFar ring start n waiting₀ (set waiting i (getD ring ((start % places + i) % places) 0)) (i + 1)
   unfolding queue
   one-more waiting i fits h s =
       let inside : i < length waiting = omega (arith, s .long) in
@@ -46,7 +46,7 @@ module _ (ring : List ℕ) (start n : ℕ) (waiting₀ : List ℕ) where
         long = length-set waiting i _ ∙ s .long;
         far = omega arith;
         there = record {
-          bytes = rw (mod-add-mod, queue-split capacity ring start i 1, add-one i, take-suc-set waiting i _ inside, s .there .bytes);
+          bytes = rw (mod-add-mod, queue-split places ring start i 1, add-one i, take-suc-set waiting i _ inside, s .there .bytes);
           others = drop-set-lt (i + 1) waiting i _ (omega arith) ∙ later;
         };
       }

@@ -1,4 +1,4 @@
--- What a host may rely on, whatever the memory: a port comes back as it was, and so does what was written down. It follows from what the two calls
+-- What a host may rely on, whatever the memory: a port comes back as it was, and so does what was saved. It follows from what the two calls
 -- promise.
 -- Assumes nothing.
 use mathlib.Core.Path.{_≡_, refl, sym, ap, subst, _∙_}
@@ -12,25 +12,25 @@ use Prim.Native.Nat.{ℕ, _+_, _*_, _/_, _%_, _≤_, _<_}
 use native.Mathlib.Omega.{arith}
 use lib.ListN.{length, take}
 use Rattle.serial.specs.Port.{Port}
-use Rattle.serial.specs.Layout.{capacity, portOf}
+use Rattle.serial.specs.Layout.{size, portOf, spareRegisters, freshSpareRegisters}
 use Rattle.runs.specs.Run.{Op, run}
 use Rattle.runs.specs.Told.{Source, receiver, transmitter, enabled, marked}
 use Rattle.runs.specs.Reachable.{Reachable, Reached}
 use Rattle.runs.proofs.Exact.{exact}
 use Rattle.runs.proofs.Isolation.{memory-fits}
 use Rattle.serial_saved.specs.Saved.{savedOf, isTold, ifTold, raisedAgain, Restore, restoreOf}
-use Rattle.serial_saved.specs.Calls.{Saves, restoreWord, Restores}
+use Rattle.serial_saved.specs.Calls.{Saves, restoreWord, ReachableSaved, Restores}
 use Rattle.serial_saved.proofs.Raising.{at-most-two}
 use Rattle.serial_saved.proofs.Bringing.{too-many, enough}
 
 -- ---- The word of a restore, taken apart
 
 pub restore-word : (reachable : Bool) (o : Restore) → let word = restoreWord reachable o in
-    (word % 0x1_0000 ≡ cond reachable 1 0) × ((word / 0x1_0000 % 2 ≡ cond (o .refused) 1 0) × (word / 0x2_0000 ≡ o .raises))
+    (word / 0x4_0000 % 2 ≡ cond reachable 1 0) × ((word / 0x1_0000 % 2 ≡ cond (o .refused) 1 0) × (word / 0x100_0000 ≡ o .raises))
 restore-word reachable o = go reachable (o .refused)
   where
-    go : (reachable refused : Bool) → let word = cond reachable 1 0 + cond refused 0x1_0000 0 + 0x2_0000 * o .raises in
-        (word % 0x1_0000 ≡ cond reachable 1 0) × ((word / 0x1_0000 % 2 ≡ cond refused 1 0) × (word / 0x2_0000 ≡ o .raises))
+    go : (reachable refused : Bool) → let word = cond refused 0x1_0000 0 + cond reachable 0x4_0000 0 + 0x100_0000 * o .raises in
+        (word / 0x4_0000 % 2 ≡ cond reachable 1 0) × ((word / 0x1_0000 % 2 ≡ cond refused 1 0) × (word / 0x100_0000 ≡ o .raises))
     go true true = (omega arith, (omega arith, omega arith))
     go true false = (omega arith, (omega arith, omega arith))
     go false true = (omega arith, (omega arith, omega arith))
@@ -44,42 +44,44 @@ module _ {regs pos ring saved waiting regs′ pos′ ring′ : List ℕ} {r : �
   abbrev o : Restore
   o = restoreOf (portOf regs pos ring) (savedOf saved waiting)
 
-  parts : (r % 0x1_0000 ≡ cond (b .reachable) 1 0) × ((r / 0x1_0000 % 2 ≡ cond (o .refused) 1 0) × (r / 0x2_0000 ≡ o .raises))
+  parts : (r / 0x4_0000 % 2 ≡ cond (b .reachable) 1 0) × ((r / 0x1_0000 % 2 ≡ cond (o .refused) 1 0) × (r / 0x100_0000 ≡ o .raises))
   parts = rw (b .answer) (restore-word (b .reachable) o)
 
-  -- The word says "reachable" exactly of the ports that runs from a fresh one reach ..
-  pub reachable-exactly : (r % 0x1_0000 ≡ 1) ↔ Reachable capacity (savedOf saved waiting)
+  -- The word says "reachable" exactly of the ports that runs from a fresh one reach, with the spare registers at 0 ..
+  pub reachable-exactly : (r / 0x4_0000 % 2 ≡ 1) ↔ ReachableSaved saved waiting
   reachable-exactly =
       let t = one (b .reachable) in
       (λ e. b .exact .0 (t .0 (sym (parts .0) ∙ e)), λ k. parts .0 ∙ t .1 (b .exact .1 k))
 
   -- (so it says it of a state exactly if some run of bytes from a fresh port comes to it),
-  pub reached-exactly : (r % 0x1_0000 ≡ 1) ↔ Reached capacity (savedOf saved waiting)
+  pub reached-exactly : (r / 0x4_0000 % 2 ≡ 1) ↔ (Reached size (savedOf saved waiting) × (spareRegisters saved ≡ freshSpareRegisters))
   reached-exactly =
-      let e = exact capacity (savedOf saved waiting) in
-      (λ h. e .0 (reachable-exactly .0 h), λ k. reachable-exactly .1 (e .1 k))
+      let e = exact size (savedOf saved waiting) in (
+        λ h. let k = reachable-exactly .0 h in (e .0 (k .port), k .sparesZero),
+        λ k. reachable-exactly .1 (record { port = e .1 (k .0); sparesZero = k .1 }),
+      )
 
   -- .. and "refused" exactly where more bytes wait than there is room for. Then nothing is raised, and else each source that is told.
-  pub not-refused : length waiting ≤ capacity → (r / 0x1_0000 % 2 ≡ 0) × (r / 0x2_0000 ≡ length (raisedAgain (savedOf saved waiting)))
+  pub not-refused : length waiting ≤ size → (r / 0x1_0000 % 2 ≡ 0) × (r / 0x100_0000 ≡ length (raisedAgain (savedOf saved waiting)))
   not-refused h = rw (enough saved waiting (portOf regs pos ring) h) at (parts .1)
 
-  pub refused : capacity < length waiting → (r / 0x1_0000 % 2 ≡ 1) × (r / 0x2_0000 ≡ 0)
+  pub refused : size < length waiting → (r / 0x1_0000 % 2 ≡ 1) × (r / 0x100_0000 ≡ 0)
   refused h = rw (too-many saved waiting (portOf regs pos ring) h) at (parts .1)
 
-  -- Where it is not refused the memory holds what was written down.
-  pub brought-back : length waiting ≤ capacity → portOf regs′ pos′ ring′ ≡ savedOf saved waiting
+  -- Where it is not refused the memory holds what was saved.
+  pub brought-back : length waiting ≤ size → portOf regs′ pos′ ring′ ≡ savedOf saved waiting
   brought-back h = rw (enough saved waiting (portOf regs pos ring) h) at (b .holds)
 
-  same-registers : length waiting ≤ capacity → regs′ ≡ saved
+  same-registers : length waiting ≤ size → regs′ ≡ saved
   same-registers h = b .restored (ap (λ (o : Restore). o .refused) (enough saved waiting (portOf regs pos ring) h)) .0
 
--- ---- Save after restore: what was written down comes out again, register for register and byte for byte
+-- ---- Save after restore: what was saved comes out again, register for register and byte for byte
 
 saved-waiting : (saved waiting : List ℕ) → savedOf saved waiting .waiting ≡ waiting
 unfolding savedOf
 saved-waiting saved waiting = refl
 
-pub save-after-restore : {regs pos ring saved waiting regs′ pos′ ring′ w saved′ w′ : List ℕ} {r n : ℕ} → length waiting ≤ capacity
+pub save-after-restore : {regs pos ring saved waiting regs′ pos′ ring′ w saved′ w′ : List ℕ} {r n : ℕ} → length waiting ≤ size
     → Restores regs pos ring saved waiting regs′ pos′ ring′ r → Saves regs′ pos′ ring′ w saved′ w′ n
     → (saved′ ≡ saved) × ((n ≡ length waiting) × (take n w′ ≡ waiting))
 save-after-restore {saved = saved} {waiting = waiting} h b s =
@@ -89,7 +91,7 @@ save-after-restore {saved = saved} {waiting = waiting} h b s =
 -- ---- Restore after save: into whatever memory, it is never refused, and the port is the one that was saved; every run from it is the same one
 
 module _ {regs pos ring w saved w′ : List ℕ} {n : ℕ} (s : Saves regs pos ring w saved w′ n) where
-  fits : length (take n w′) ≤ capacity
+  fits : length (take n w′) ≤ size
   fits = rw (s .bytes) (memory-fits regs pos ring)
 
   module _ {regs₁ pos₁ ring₁ regs′ pos′ ring′ : List ℕ} {r : ℕ} (b : Restores regs₁ pos₁ ring₁ saved (take n w′) regs′ pos′ ring′ r) where
@@ -101,8 +103,9 @@ module _ {regs pos ring w saved w′ : List ℕ} {n : ℕ} (s : Saves regs pos r
     restore-after-save = (not-refused b fits .0, (same-port, λ os. ap (λ (p : Port). run p os) same-port))
 
     -- A port that runs reach is one still, and the word says so.
-    pub saved-reachable : Reachable capacity (portOf regs pos ring) → (r % 0x1_0000 ≡ 1) × Reachable capacity (portOf regs′ pos′ ring′)
-    saved-reachable k = (reachable-exactly b .1 (rw (s .holds) k), rw same-port k)
+    pub saved-reachable : Reachable size (portOf regs pos ring) → spareRegisters regs ≡ freshSpareRegisters
+        → (r / 0x4_0000 % 2 ≡ 1) × Reachable size (portOf regs′ pos′ ring′)
+    saved-reachable k z = (reachable-exactly b .1 (record { port = rw (s .holds) k; sparesZero = ap spareRegisters (s .registers) ∙ z }), rw same-port k)
 
 -- ---- What is raised again
 

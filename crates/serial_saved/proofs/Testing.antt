@@ -13,9 +13,10 @@ use borrow.Author.Tests.{eq-eqb, ne-eqb, ltb-true, lt-ltb, not-true, not-false}
 use Rattle.common.specs.Bits.{on}
 use Rattle.common.specs.Bytes.{Bytes}
 use Rattle.common.specs.Lists.{some}
-use Rattle.serial.specs.Layout.{capacity, portOf}
-use Rattle.runs.specs.Reachable.{Marks, neither, onlyTransmitter, onlyReceiver, twoKinds, Reachable}
+use Rattle.serial.specs.Layout.{size, portOf, spareRegisters, freshSpareRegisters}
+use Rattle.runs.specs.Reachable.{Marks, neither, onlyTransmitter, onlyReceiver, twoKinds}
 use Rattle.serial_saved.specs.Saved.{savedOf}
+use Rattle.serial_saved.specs.Calls.{ReachableSaved}
 use Rattle.serial_saved.specs.Inside.{TransmitterRead, ReceiverRead}
 
 -- ---- Answers, and bits
@@ -125,65 +126,72 @@ module _ (ier iir : ℕ) where
     enabled-transmitter z = so (λ e u w t f. two-ways (is-on ier 2 z) f)
 
     pub unmarked-receiver : (n : ℕ) → length q ≡ n → (bitAnd ier 1 ≡ 0 → ⊥) → bitAnd iir 4 ≡ 0 → (bitAnd iir 2 ≡ 0 → ⊥) → bitAnd ier 2 ≡ 0
-        → (ltb n capacity ≡ true) ↔ ReceiverRead ier iir q
+        → (ltb n size ≡ true) ↔ ReceiverRead ier iir q
     unmarked-receiver n l e u t f = (
-      λ r _ _ _ _ _. rw l (ltb-true n capacity r),
+      λ r _ _ _ _ _. rw l (ltb-true n size r),
       λ h. go q l (λ w. h (is-on ier 1 e) (is-off iir 4 u) w (is-on iir 2 t) (is-off ier 2 f)),
     )
       where
-        go : (q : List ℕ) → length q ≡ n → (some q ≡ true → length q < capacity) → ltb n capacity ≡ true
-        go [] l h = lt-ltb n capacity (omega arith)
-        go (x ∷ q) l h = lt-ltb n capacity (omega (arith, h refl))
+        go : (q : List ℕ) → length q ≡ n → (some q ≡ true → length q < size) → ltb n size ≡ true
+        go [] l h = lt-ltb n size (omega arith)
+        go (x ∷ q) l h = lt-ltb n size (omega (arith, h refl))
 
 -- ---- All clauses
 
 module _ (saved waiting : List ℕ) where
   abbrev No : Type 0
-  No = (false ≡ true) ↔ Reachable capacity (savedOf saved waiting)
+  No = (false ≡ true) ↔ ReachableSaved saved waiting
 
   pub wide-ier : 16 ≤ getD saved 1 0 → No
   unfolding savedOf portOf
-  wide-ier h = not-so (λ k. omega (arith, k .settings .ier))
+  wide-ier h = not-so (λ k. omega (arith, k .port .settings .ier))
 
   pub other-msr : (getD saved 6 0 ≡ 0xb0 → ⊥) → No
   unfolding savedOf portOf
-  other-msr d = not-so (λ k. d (k .msr))
+  other-msr d = not-so (λ k. d (k .port .msr))
 
   pub other-lsr : (status : ℕ) → status ≡ cond (some waiting) 0x61 0x60 → (getD saved 5 0 ≡ status → ⊥) → No
   unfolding savedOf portOf
-  other-lsr status e d = not-so (λ k. d (k .lsr ∙ sym e))
+  other-lsr status e d = not-so (λ k. d (k .port .lsr ∙ sym e))
 
   pub other-marks : {r : Bool} → (r ≡ true) ↔ Marks (getD saved 2 0) waiting → not r ≡ true → No
   unfolding savedOf portOf
-  other-marks m f = not-so (λ k. two-ways (m .1 (k .marks)) (not-true _ f))
+  other-marks m f = not-so (λ k. two-ways (m .1 (k .port .marks)) (not-true _ f))
 
   pub never-read : {r : Bool} → (r ≡ true) ↔ TransmitterRead (getD saved 1 0) (getD saved 2 0) → not r ≡ true → No
   unfolding savedOf portOf
-  never-read t f = not-so (λ k. two-ways (t .1 (k .unmarked .transmitter-read)) (not-true _ f))
+  never-read t f = not-so (λ k. two-ways (t .1 (k .port .unmarked .transmitter-read)) (not-true _ f))
+
+  pub left-full : {r : Bool} → (r ≡ true) ↔ ReceiverRead (getD saved 1 0) (getD saved 2 0) waiting → not r ≡ true → No
+  unfolding savedOf portOf
+  left-full t f = not-so (λ k. two-ways (t .1 (k .port .unmarked .receiver-read)) (not-true _ f))
 
   -- all but the last hold: that decides
-  pub decided : {r m t : Bool} {status : ℕ} → Bytes saved → Bytes waiting → length waiting ≤ capacity → getD saved 1 0 < 16 → getD saved 6 0 ≡ 0xb0
+  pub decided : {r m t z : Bool} {status : ℕ} → Bytes saved → Bytes waiting → length waiting ≤ size → getD saved 1 0 < 16 → getD saved 6 0 ≡ 0xb0
       → status ≡ cond (some waiting) 0x61 0x60 → getD saved 5 0 ≡ status → (m ≡ true) ↔ Marks (getD saved 2 0) waiting → not m ≡ false
-      → (t ≡ true) ↔ TransmitterRead (getD saved 1 0) (getD saved 2 0) → not t ≡ false → (r ≡ true) ↔ ReceiverRead (getD saved 1 0) (getD saved 2 0) waiting
-      → (r ≡ true) ↔ Reachable capacity (savedOf saved waiting)
+      → (t ≡ true) ↔ TransmitterRead (getD saved 1 0) (getD saved 2 0) → not t ≡ false → (r ≡ true) ↔ ReceiverRead (getD saved 1 0) (getD saved 2 0) waiting → not r ≡ false
+      → (z ≡ true) ↔ (spareRegisters saved ≡ freshSpareRegisters) → (z ≡ true) ↔ ReachableSaved saved waiting
   unfolding savedOf portOf
-  decided b w f ier msr status lsr m marked t was-read r = (
+  decided b w f ier msr status lsr m marked t was-read r left s = (
     λ e. record {
-      settings = record {
-        ier = ier;
-        lcr = byte-at saved b 3;
-        mcr = byte-at saved b 4;
-        scr = byte-at saved b 7;
-        dll = byte-at saved b 0;
-        dlm = byte-at saved b 8;
+      sparesZero = s .0 e;
+      port = record {
+        settings = record {
+          ier = ier;
+          lcr = byte-at saved b 3;
+          mcr = byte-at saved b 4;
+          scr = byte-at saved b 7;
+          dll = byte-at saved b 0;
+          dlm = byte-at saved b 8;
+        };
+        marks = m .0 (not-false _ marked);
+        unmarked = record { transmitter-read = t .0 (not-false _ was-read); receiver-read = r .0 (not-false _ left) };
+        lsr = lsr ∙ status;
+        msr = msr;
+        bytes = w;
+        fits = f;
+        sized = refl;
       };
-      marks = m .0 (not-false _ marked);
-      unmarked = record { transmitter-read = t .0 (not-false _ was-read); receiver-read = r .0 e };
-      lsr = lsr ∙ status;
-      msr = msr;
-      bytes = w;
-      fits = f;
-      sized = refl;
     },
-    λ k. r .1 (k .unmarked .receiver-read),
+    λ k. s .1 (k .sparesZero),
   )

@@ -5,12 +5,13 @@ use mathlib.Core.Logic.{_↔_}
 use mathlib.Core.List.{List, [], _∷_}
 use mathlib.Core.Bool.{Bool, true, false, cond}
 use lib.ListN.{length, take, drop}
-use Rattle.serial.specs.Layout.{capacity, portOf, spareOf}
+use Rattle.serial.specs.Layout.{size, portOf, unusedOf, spareRegisters, sparePositions, freshSpareRegisters}
+use Rattle.serial.specs.Calls.{refusedBit, reachableBit, oneRaise}
 use Rattle.runs.specs.Reachable.{Reachable}
 use Rattle.serial_saved.specs.Saved.{savedOf, Restore, restoreOf}
 
--- The port is written down: its nine registers as they lie, and as many bytes as wait, the first to be read first. What lies behind them in the memory
--- for the bytes stays. The port itself is not lent to be changed.
+-- The port is saved: all its registers as they lie, the spare ones too, and as many bytes as wait, the first to be read first. What lies behind
+-- them in the memory for the bytes stays. The port itself is not lent to be changed.
 pub record Saves (regs pos ring waiting saved′ waiting′ : List ℕ) (r : ℕ) : Type 0 where
   pub registers : saved′ ≡ regs
   pub number : r ≡ length (portOf regs pos ring .waiting)
@@ -18,20 +19,27 @@ pub record Saves (regs pos ring waiting saved′ waiting′ : List ℕ) (r : ℕ
   pub others : drop r waiting′ ≡ drop r waiting
   pub holds : savedOf saved′ (take r waiting′) ≡ portOf regs pos ring
 
--- The word after a port was brought back: 1 if a run from a fresh port can have come to it, 0x1_0000 for "refused", 0x2_0000 for each raise.
+-- The word after a port was restored: whether a run from a fresh port can have come to it, whether it was refused, and the raises.
 abbrev pub restoreWord : Bool → Restore → ℕ
-restoreWord reachable o = cond reachable 1 0 + cond (o .refused) 0x1_0000 0 + 0x2_0000 * o .raises
+restoreWord reachable o = cond (o .refused) refusedBit 0 + cond reachable reachableBit 0 + oneRaise * o .raises
 
--- The port is brought back: the memory holds it, from the storage's first place on, and the bytes of the storage that do not wait are as they were.
--- Where that is refused not a byte changes. What is brought back is believed whether or not a run can have come to it; the word says it.
+-- A run from a fresh port can have come to what was saved: it reaches the port, and keeps the spare registers at 0.
+pub record ReachableSaved (saved waiting : List ℕ) : Type 0 where
+  pub port : Reachable size (savedOf saved waiting)
+  pub sparesZero : spareRegisters saved ≡ freshSpareRegisters
+
+-- The port is restored: the memory holds it, from the ring's first place on. The bytes of the ring that do not wait are as they were, and so are
+-- the spare positions; the spare registers are those that were saved. Where that is refused not a byte changes. What is restored is
+-- believed whether or not a run can have come to it; the word says it.
 pub record Restored (regs pos ring saved waiting regs′ pos′ ring′ : List ℕ) (r : ℕ) (o : Restore) : Type 0 where
   pub reachable : Bool
-  pub exact : (reachable ≡ true) ↔ Reachable capacity (savedOf saved waiting)
+  pub exact : (reachable ≡ true) ↔ ReachableSaved saved waiting
   pub answer : r ≡ restoreWord reachable o
   pub holds : portOf regs′ pos′ ring′ ≡ o .port
-  pub spared : spareOf pos′ ring′ ≡ spareOf pos′ ring
-  pub restored : o .refused ≡ false → (regs′ ≡ saved) × (pos′ ≡ 0 ∷ length waiting ∷ [])
-  pub still : o .refused ≡ true → (regs′ ≡ regs) × ((pos′ ≡ pos) × (ring′ ≡ ring))
+  pub unusedBytesKept : unusedOf pos′ ring′ ≡ unusedOf pos′ ring
+  pub sparePositionsKept : sparePositions pos′ ≡ sparePositions pos
+  pub restored : o .refused ≡ false → (regs′ ≡ saved) × (pos′ ≡ 0 ∷ length waiting ∷ sparePositions pos)
+  pub unchangedIfRefused : o .refused ≡ true → (regs′ ≡ regs) × ((pos′ ≡ pos) × (ring′ ≡ ring))
 
 abbrev pub Restores : List ℕ → List ℕ → List ℕ → List ℕ → List ℕ → List ℕ → List ℕ → List ℕ → ℕ → Type 0
 Restores regs pos ring saved waiting regs′ pos′ ring′ r =

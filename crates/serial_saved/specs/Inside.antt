@@ -7,11 +7,11 @@ use lib.ListN.{length, take, drop}
 use Rattle.common.specs.Lists.{some}
 use Rattle.serial.specs.Interrupts.{Kind, receivedData, transmitterEmpty, isEnabled, isMarked}
 use Rattle.serial.specs.Ring.{queue}
-use Rattle.serial.specs.Layout.{capacity}
+use Rattle.serial.specs.Layout.{size, places}
 
--- The n bytes from `start` on in the storage lie one behind another from the first place on; the other places are as they were.
+-- The n bytes from `start` on in the ring lie one behind another from the first place on; the other places are as they were.
 pub record Unrolled (ring : List ℕ) (start n : ℕ) (waiting waiting′ : List ℕ) : Type 0 where
-  pub bytes : take n waiting′ ≡ queue capacity ring start n
+  pub bytes : take n waiting′ ≡ queue places ring start n
   pub others : drop n waiting′ ≡ drop n waiting
 
 -- A kind is raised again where it is enabled and marked.
@@ -27,4 +27,4 @@ TransmitterRead ier iir =
 abbrev pub ReceiverRead : ℕ → ℕ → List ℕ → Type 0
 ReceiverRead ier iir q =
     isEnabled ier receivedData ≡ true → isMarked iir receivedData ≡ false → some q ≡ true → isMarked iir transmitterEmpty ≡ true
-    → isEnabled ier transmitterEmpty ≡ false → length q < capacity
+    → isEnabled ier transmitterEmpty ≡ false → length q < size

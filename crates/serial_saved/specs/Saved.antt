@@ -1,4 +1,4 @@
--- A serial port written down and brought back: nine registers, and the bytes that wait in their order.
+-- A serial port saved and restored: its registers, and the bytes that wait in their order.
 use Prim.Native.Nat.{ℕ}
 use mathlib.Core.Bool.{Bool, true, false, cond, _&&_}
 use mathlib.Core.List.{List, [], _∷_, _++_}
@@ -8,7 +8,7 @@ use Rattle.serial.specs.Port.{Port, withReceiver}
 use Rattle.serial.specs.Layout.{portOf}
 use Rattle.runs.specs.Told.{Source, receiver, transmitter, enabled, marked}
 
--- What was written down is a port too, of which more bytes may wait than there is room for.
+-- What was saved is a port too, of which more bytes may wait than there is room for.
 unfoldable pub savedOf : List ℕ → List ℕ → Port
 savedOf regs waiting = let p = portOf regs [] [] in withReceiver p (p .iir) (p .lsr) waiting
 
@@ -22,7 +22,7 @@ ifTold told s = cond told (s ∷ []) []
 unfoldable pub raisedAgain : Port → List Source
 raisedAgain p = ifTold (isTold p transmitter) transmitter ++ ifTold (isTold p receiver) receiver
 
--- What bringing back does: the port after it, whether it was refused, how often the interrupt is raised.
+-- What restoring does: the port after it, whether it was refused, how often the interrupt is raised.
 pub record Restore : Type 0 where
   pub port : Port
   pub refused : Bool
@@ -31,7 +31,7 @@ pub record Restore : Type 0 where
 abbrev pub fits : Port → Bool
 fits saved = leb (length (saved .waiting)) (saved .size)
 
--- Whatever was written down is believed, but for one thing: where more bytes wait than there is room for it is refused, and the port stays as it was.
+-- Whatever was saved is believed, but for one thing: where more bytes wait than there is room for it is refused, and the port stays as it was.
 unfoldable pub restoreOf : Port → Port → Restore
 restoreOf p saved =
     cond (fits saved) (record { port = saved; refused = false; raises = length (raisedAgain saved) })

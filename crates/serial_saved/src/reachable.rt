@@ -1,9 +1,11 @@
-// Whether a run from a fresh port can have come to what was written down, clause by clause.
-use crate::CAPACITY;
+// Whether a run from a fresh port can have come to what was saved, clause by clause.
+use crate::SIZE;
+use serial::memory;
 use serial::memory::IER;
 use serial::memory::IIR;
 use serial::memory::LSR;
 use serial::memory::MSR;
+use serial::memory::Regs;
 ghost use mathlib.Core.Path.{_≡_};
 ghost use mathlib.Core.Logic.{_↔_};
 ghost use mathlib.Core.List.{List};
@@ -12,9 +14,9 @@ ghost use Prim.Native.Nat.{ℕ, _≤_};
 ghost use lib.ListN.{length};
 ghost use Rattle.common.specs.Bytes.{Bytes};
 ghost use Rattle.common.specs.Lists.{some};
-ghost use Rattle.serial.specs.Layout.{capacity};
-ghost use Rattle.runs.specs.Reachable.{Marks, Reachable};
-ghost use Rattle.serial_saved.specs.Saved.{savedOf};
+ghost use Rattle.serial.specs.Layout.{size};
+ghost use Rattle.runs.specs.Reachable.{Marks};
+ghost use Rattle.serial_saved.specs.Calls.{ReachableSaved};
 ghost use Rattle.serial_saved.specs.Inside.{TransmitterRead, ReceiverRead};
 
 fn nothing() {}
@@ -82,7 +84,7 @@ fn is_receiver_read(ier: u8, iir: u8, n: usize) -> bool
     if ier & 0x02 != 0 {
         return true;
     }
-    n < CAPACITY
+    n < SIZE
 }
 
 // LSR says whether a byte waits, of n, and that the transmitter is empty.
@@ -96,9 +98,9 @@ fn status(n: usize) -> u8
 }
 
 // All clauses. LCR, MCR, SCR and the divisor may be any bytes, and so may those that wait.
-pub fn is_reachable(saved: &[u8; 9], waiting: &[u8]) -> bool
-    requires { ⌜ length (now waiting) ≤ capacity ⌝ }
-    ensures { λ r. ⌜ (r ≡ true) ↔ Reachable capacity (savedOf (now (saved .entry)) (now (waiting .entry))) ⌝ }
+pub fn is_reachable(saved: &Regs, waiting: &[u8]) -> bool
+    requires { ⌜ length (now waiting) ≤ size ⌝ }
+    ensures { λ r. ⌜ (r ≡ true) ↔ ReachableSaved (now (saved .entry)) (now (waiting .entry)) ⌝ }
 {
     all_bytes(saved);
     all_bytes(waiting);
@@ -120,5 +122,8 @@ pub fn is_reachable(saved: &[u8; 9], waiting: &[u8]) -> bool
     if !is_transmitter_read(ier, iir) {
         return false;
     }
-    is_receiver_read(ier, iir, n)
+    if !is_receiver_read(ier, iir, n) {
+        return false;
+    }
+    memory::are_spares_zero(saved)
 }

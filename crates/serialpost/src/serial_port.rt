@@ -1,23 +1,26 @@
 // The 16550 serial port.
+use serial::memory::Pos;
+use serial::memory::Regs;
+use serial::memory::Ring;
 ghost use Rattle.serial.specs.Port.{readOf, writeOf, inputOf};
-ghost use Rattle.serial.specs.Calls.{Begins, Reads, Writes, Takes, HasRoom};
+ghost use Rattle.serial.specs.Calls.{MakesFresh, Reads, Writes, TakesInput, HasRoom};
 ghost use Rattle.runs.specs.Play.{Plays};
 ghost use Rattle.serial_saved.specs.Calls.{Saves, Restores};
 ghost use Rattle.serial_form.specs.Form.{readForm};
 ghost use Rattle.serial_form.specs.Calls.{Encodes, Decodes};
 
 #[no_mangle]
-pub extern "C" fn serialpost_serial_init(regs: &mut [u8; 9], pos: &mut [u32; 2])
-    ensures { λ r. ⌜ Begins (now (regs .exit)) (now (pos .exit)) ⌝ }
+pub extern "C" fn serialpost_serial_init(regs: &mut Regs, pos: &mut Pos)
+    ensures { λ r. ⌜ MakesFresh (now (regs .exit)) (now (pos .exit)) ⌝ }
 {
     serial::init(regs, pos);
 }
 
 #[no_mangle]
 pub extern "C" fn serialpost_serial_read(
-    regs: &mut [u8; 9],
-    pos: &mut [u32; 2],
-    ring: &[u8; 64],
+    regs: &mut Regs,
+    pos: &mut Pos,
+    ring: &Ring,
     offset: u8,
 ) -> u32
     ensures { λ r. ⌜ Reads (λ p. readOf p offset) (now (regs .entry)) (now (pos .entry)) (now (ring .entry)) (now (regs .exit)) (now (pos .exit)) r ⌝ }
@@ -27,9 +30,9 @@ pub extern "C" fn serialpost_serial_read(
 
 #[no_mangle]
 pub extern "C" fn serialpost_serial_write(
-    regs: &mut [u8; 9],
-    pos: &mut [u32; 2],
-    ring: &mut [u8; 64],
+    regs: &mut Regs,
+    pos: &mut Pos,
+    ring: &mut Ring,
     offset: u8,
     value: u8,
 ) -> u32
@@ -40,18 +43,18 @@ pub extern "C" fn serialpost_serial_write(
 
 #[no_mangle]
 pub extern "C" fn serialpost_serial_input(
-    regs: &mut [u8; 9],
-    pos: &mut [u32; 2],
-    ring: &mut [u8; 64],
+    regs: &mut Regs,
+    pos: &mut Pos,
+    ring: &mut Ring,
     input: &[u8],
 ) -> u32
-    ensures { λ r. ⌜ Takes (λ p. inputOf p (now (input .entry))) (now (regs .entry)) (now (pos .entry)) (now (ring .entry)) (now (regs .exit)) (now (pos .exit)) (now (ring .exit)) r ⌝ }
+    ensures { λ r. ⌜ TakesInput (λ p. inputOf p (now (input .entry))) (now (regs .entry)) (now (pos .entry)) (now (ring .entry)) (now (regs .exit)) (now (pos .exit)) (now (ring .exit)) r ⌝ }
 {
     serial::input(regs, pos, ring, input)
 }
 
 #[no_mangle]
-pub extern "C" fn serialpost_serial_room(pos: &[u32; 2]) -> u32
+pub extern "C" fn serialpost_serial_room(pos: &Pos) -> u32
     ensures { λ r. ⌜ HasRoom (now (pos .entry)) r ⌝ }
 {
     serial::room(pos)
@@ -59,9 +62,9 @@ pub extern "C" fn serialpost_serial_room(pos: &[u32; 2]) -> u32
 
 #[no_mangle]
 pub extern "C" fn serialpost_serial_play(
-    regs: &mut [u8; 9],
-    pos: &mut [u32; 2],
-    ring: &mut [u8; 64],
+    regs: &mut Regs,
+    pos: &mut Pos,
+    ring: &mut Ring,
     ops: &[u8],
     inputs: &[u8],
     answers: &mut [u32],
@@ -73,11 +76,11 @@ pub extern "C" fn serialpost_serial_play(
 
 #[no_mangle]
 pub extern "C" fn serialpost_serial_save(
-    regs: &[u8; 9],
-    pos: &[u32; 2],
-    ring: &[u8; 64],
-    saved: &mut [u8; 9],
-    waiting: &mut [u8; 64],
+    regs: &Regs,
+    pos: &Pos,
+    ring: &Ring,
+    saved: &mut Regs,
+    waiting: &mut Ring,
 ) -> u32
     ensures { λ r. ⌜ Saves (now (regs .entry)) (now (pos .entry)) (now (ring .entry)) (now (waiting .entry)) (now (saved .exit)) (now (waiting .exit)) r ⌝ }
 {
@@ -86,10 +89,10 @@ pub extern "C" fn serialpost_serial_save(
 
 #[no_mangle]
 pub extern "C" fn serialpost_serial_restore(
-    regs: &mut [u8; 9],
-    pos: &mut [u32; 2],
-    ring: &mut [u8; 64],
-    saved: &[u8; 9],
+    regs: &mut Regs,
+    pos: &mut Pos,
+    ring: &mut Ring,
+    saved: &Regs,
     waiting: &[u8],
 ) -> u32
     ensures { λ r. ⌜ Restores (now (regs .entry)) (now (pos .entry)) (now (ring .entry)) (now (saved .entry)) (now (waiting .entry)) (now (regs .exit)) (now (pos .exit)) (now (ring .exit)) r ⌝ }
@@ -98,18 +101,14 @@ pub extern "C" fn serialpost_serial_restore(
 }
 
 #[no_mangle]
-pub extern "C" fn serialpost_serial_encode(saved: &[u8; 9], waiting: &[u8], form: &mut [u8]) -> u32
+pub extern "C" fn serialpost_serial_encode(saved: &Regs, waiting: &[u8], form: &mut [u8]) -> u32
     ensures { λ r. ⌜ Encodes (now (saved .entry)) (now (waiting .entry)) (now (form .entry)) (now (form .exit)) r ⌝ }
 {
     serial_form::encode(saved, waiting, form)
 }
 
 #[no_mangle]
-pub extern "C" fn serialpost_serial_decode(
-    form: &[u8],
-    saved: &mut [u8; 9],
-    waiting: &mut [u8; 64],
-) -> u32
+pub extern "C" fn serialpost_serial_decode(form: &[u8], saved: &mut Regs, waiting: &mut Ring) -> u32
     ensures { λ r. ⌜ Decodes (readForm (now (form .entry))) (now (saved .entry)) (now (waiting .entry)) (now (saved .exit)) (now (waiting .exit)) r ⌝ }
 {
     serial_form::decode(form, saved, waiting)

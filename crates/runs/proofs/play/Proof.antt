@@ -1,20 +1,21 @@
 -- `play` meets its contract. The loop's invariant: the run is what the operations played so far did and what is left does.
 -- Assumes nothing.
-use mathlib.Core.Path.{sym, _∙_}
+use mathlib.Core.Path.{refl, sym, _∙_}
 use Prim.Native.Nat.{_+_, _-_, _*_, _<_, _≤_}
 use native.Mathlib.Omega.{arith}
 use borrow.Author.Needs.{needs}
 use lib.ListN.{length}
 use Rattle.serial.specs.Layout.{portOf}
+use Rattle.serial.specs.Calls.{SparesKept}
 use borrow.Author.Tests.{not-true, not-false}
 use Rattle.runs.proofs.Decoding.{takesAt}
-use Rattle.runs.proofs.Playing.{Playing, playing-none, next-bytes, playing-next, refuses-no-run, refuses-too-many, plays-all}
+use Rattle.runs.proofs.Playing.{Playing, kept-on, playing-none, next-bytes, playing-next, refuses-no-run, refuses-too-many, plays-all}
 use Rattle.runs.proofs.play.Statement.{statement}
 use Rattle.runs.proofs.play.Tie as tie
 
 abbrev Inv-loop : tie.InvT-loop
 Inv-loop regs₀ pos₀ ring₀ ops inputs answers₀ count from₀ i₀ regs pos ring answers from i =
-    Playing (portOf regs₀ pos₀ ring₀) ops inputs answers₀ (portOf regs pos ring) answers i from
+    Playing (portOf regs₀ pos₀ ring₀) ops inputs answers₀ (portOf regs pos ring) answers i from × SparesKept regs₀ pos₀ regs pos
 
 abbrev μ-loop : tie.MeasureT-loop
 μ-loop regs₀ pos₀ ring₀ ops inputs answers₀ count from₀ i₀ regs pos ring answers from i = count - i
@@ -27,7 +28,7 @@ place-here : (c : tie.In-loop Inv-loop μ-loop) → c .before .loop .i < length 
 place-here c = omega (arith, c .loop-test .taken, c .before .before .if2 .left)
 
 bytes-here : (c : tie.In-loop Inv-loop μ-loop) → takesAt (c .before .before .before .before .before .before .before .before .args .ops .now) (3 * c .before .loop .i) ≤ length (c .before .before .before .before .before .before .before .before .args .inputs .now) - c .before .loop .from
-bytes-here c = next-bytes _ _ _ _ _ _ _ _ (c .before .loop .inv) (whole-here c)
+bytes-here c = next-bytes _ _ _ _ _ _ _ _ (c .before .loop .inv .0) (whole-here c)
 
 is-run-requires : tie.Need-is-run-requires Inv-loop μ-loop
 is-run-requires c κs = search needs
@@ -41,7 +42,7 @@ returns-2 c = let g = c .before .before .before .before .before .before .args in
 
 loop-holds : tie.Need-loop-holds Inv-loop μ-loop
 loop-holds c =
-    playing-none _ _ _ _ (sym (c .before .before .is-run .ensures) ∙ not-false _ (c .before .if1 .left))
+    (playing-none _ _ _ _ (sym (c .before .before .is-run .ensures) ∙ not-false _ (c .before .if1 .left)), (refl, refl))
 
 mul-at : tie.Need-mul-at Inv-loop μ-loop
 mul-at c = omega (arith, whole-here c)
@@ -65,7 +66,7 @@ input-bytes-requires : tie.Need-input-bytes-requires Inv-loop μ-loop
 input-bytes-requires c κs = search needs
 
 add-end : tie.Need-add-end Inv-loop μ-loop
-add-end c = omega (arith, bytes-here (c .before .before .before .before), c .input-bytes .ensures, c .before .before .before .before .before .loop .inv .inside)
+add-end c = omega (arith, bytes-here (c .before .before .before .before), c .input-bytes .ensures, c .before .before .before .before .before .loop .inv .0 .inside)
 
 sub-play-one : tie.Need-sub-play-one Inv-loop μ-loop
 sub-play-one c = omega arith
@@ -75,7 +76,7 @@ part-play-one-start c = search needs
 
 part-play-one-end : tie.Need-part-play-one-end Inv-loop μ-loop
 part-play-one-end c =
-    omega (arith, bytes-here (c .before .before .before .before .before .before .before), c .before .before .before .input-bytes .ensures, c .before .before .before .before .before .before .before .before .loop .inv .inside)
+    omega (arith, bytes-here (c .before .before .before .before .before .before .before), c .before .before .before .input-bytes .ensures, c .before .before .before .before .before .before .before .before .loop .inv .0 .inside)
 
 play-one-requires : tie.Need-play-one-requires Inv-loop μ-loop
 play-one-requires c κs = search needs
@@ -84,7 +85,7 @@ mul-answers : tie.Need-mul-answers Inv-loop μ-loop
 mul-answers c = omega (arith, place-here (c .before .before .before .before .before .before .before .before .before))
 
 slice-write-answers : tie.Need-slice-write-answers Inv-loop μ-loop
-slice-write-answers c = omega (arith, place-here (c .before .before .before .before .before .before .before .before .before), c .before .before .before .before .before .before .before .before .before .before .loop .inv .long)
+slice-write-answers c = omega (arith, place-here (c .before .before .before .before .before .before .before .before .before), c .before .before .before .before .before .before .before .before .before .before .loop .inv .0 .long)
 
 add-i : tie.Need-add-i Inv-loop μ-loop
 add-i c = omega (arith, whole-here (c .before .before .before .before .before .before .before .before .before))
@@ -93,15 +94,17 @@ loop-less : tie.Need-loop-less Inv-loop μ-loop
 loop-less c = omega (arith, c .before .before .before .before .before .before .before .before .before .loop-test .taken)
 
 loop-again : tie.Need-loop-again Inv-loop μ-loop
-loop-again c =
-    playing-next _ _ _ _ _ _ _ _ (c .before .before .before .before .before .before .before .before .before .before .loop .inv) (whole-here (c .before .before .before .before .before .before .before .before .before)) _ _ _ (place-here (c .before .before .before .before .before .before .before .before .before)) (c .before .before .before .before .before .input-bytes .ensures) (c .play-one .ensures)
+loop-again c = (
+  playing-next _ _ _ _ _ _ _ _ (c .before .before .before .before .before .before .before .before .before .before .loop .inv .0) (whole-here (c .before .before .before .before .before .before .before .before .before)) _ _ _ (place-here (c .before .before .before .before .before .before .before .before .before)) (c .before .before .before .before .before .input-bytes .ensures) (c .play-one .ensures .0),
+  kept-on (c .before .before .before .before .before .before .before .before .before .before .loop .inv .1) (c .play-one .ensures .1),
+)
 
 same-length : tie.Need-same-length Inv-loop μ-loop
-same-length c = omega (arith, c .before .loop .inv .long)
+same-length c = omega (arith, c .before .loop .inv .0 .long)
 
 returns-3 : tie.Need-returns-3 Inv-loop μ-loop
 returns-3 c =
-    plays-all _ _ _ _ _ _ (sym (c .before .before .before .before .is-run .ensures) ∙ not-false _ (c .before .before .before .if1 .left)) (c .before .before .if2 .left) _ _ _ _ _ _ (c .before .loop .inv) (c .loop-test .left)
+    plays-all _ _ _ _ _ _ (sym (c .before .before .before .before .is-run .ensures) ∙ not-false _ (c .before .before .before .if1 .left)) (c .before .before .if2 .left) _ _ _ _ _ _ (c .before .loop .inv .0) (c .loop-test .left) (c .before .loop .inv .1)
 
 pub play-spec : {M : Type 1} → statement M
 play-spec =

@@ -13,7 +13,7 @@ returns : tie.Need-returns
 returns c =
     let g = c .before .before .before .before .before .before .args in
     let e = c .read .ensures in
-    does-read _ (g .a) (g .b) (g .bytes .now) _ _ (g .kind) (c .before .before .before .before .match .keys1) (e .holds) (e .answer)
+    (does-read _ (g .a) (g .b) (g .bytes .now) _ _ (g .kind) (c .before .before .before .before .match .keys1) (e .holds) (e .answer), e .sparesKept)
 
 write-requires : tie.Need-write-requires
 write-requires c κs = search needs
@@ -22,7 +22,7 @@ returns-2 : tie.Need-returns-2
 returns-2 c =
     let g = c .before .before .before .before .before .before .args in
     let e = c .write .ensures in
-    does-write _ (g .a) (g .b) (g .bytes .now) _ _ (g .kind) (c .before .before .before .before .match .keys2) (e .holds) (e .answer)
+    (does-write _ (g .a) (g .b) (g .bytes .now) _ _ (g .kind) (c .before .before .before .before .match .keys2) (e .holds) (e .answer), e .sparesKept)
 
 input-requires : tie.Need-input-requires
 input-requires c κs = search needs
@@ -31,7 +31,7 @@ returns-3 : tie.Need-returns-3
 returns-3 c =
     let g = c .before .before .before .before .before .before .args in
     let e = c .input .ensures in
-    does-input _ (g .a) (g .b) (g .bytes .now) _ _ (g .kind) (c .before .before .before .before .match .keys3) (e .holds) (e .answer)
+    (does-input _ (g .a) (g .b) (g .bytes .now) _ _ (g .kind) (c .before .before .before .before .match .keys3) (e .holds) (e .answer), e .sparesKept)
 
 room-requires : tie.Need-room-requires
 room-requires c κs = search needs
@@ -40,7 +40,7 @@ returns-4 : tie.Need-returns-4
 returns-4 c =
     let g = c .before .before .before .before .args in
     let m = c .before .before .match .rest in
-    does-room _ (g .a) (g .b) (g .bytes .now) _ _ (g .kind) (m .0 .0 .1) (m .0 .1) (m .1) refl (c .room .ensures _ _)
+    (does-room _ (g .a) (g .b) (g .bytes .now) _ _ (g .kind) (m .0 .0 .1) (m .0 .1) (m .1) refl (c .room .ensures _ _), (refl, refl))
 
 pub play-one-spec : {M : Type 1} → statement M
 play-one-spec =

@@ -1,15 +1,15 @@
 -- Each answer is a law of `Registers`.
 -- Assumes nothing.
-use Rattle.serial.proofs.Registers.{begins}
+use Rattle.serial.proofs.Registers.{makes-fresh}
 use borrow.Author.Needs.{needs}
 use Rattle.serial.proofs.init.Statement.{statement}
 use Rattle.serial.proofs.init.Tie as tie
 
-nine-requires : tie.Need-nine-requires
-nine-requires c κs = search needs
+regs-len-requires : tie.Need-regs-len-requires
+regs-len-requires c κs = search needs
 
-two-requires : tie.Need-two-requires
-two-requires c κs = search needs
+pos-len-requires : tie.Need-pos-len-requires
+pos-len-requires c κs = search needs
 
 element-write-regs : tie.Need-element-write-regs
 element-write-regs c = search needs
@@ -38,21 +38,48 @@ element-write-regs-8 c = search needs
 element-write-regs-9 : tie.Need-element-write-regs-9
 element-write-regs-9 c = search needs
 
+element-write-regs-10 : tie.Need-element-write-regs-10
+element-write-regs-10 c = search needs
+
+element-write-regs-11 : tie.Need-element-write-regs-11
+element-write-regs-11 c = search needs
+
+element-write-regs-12 : tie.Need-element-write-regs-12
+element-write-regs-12 c = search needs
+
+element-write-regs-13 : tie.Need-element-write-regs-13
+element-write-regs-13 c = search needs
+
+element-write-regs-14 : tie.Need-element-write-regs-14
+element-write-regs-14 c = search needs
+
+element-write-regs-15 : tie.Need-element-write-regs-15
+element-write-regs-15 c = search needs
+
+element-write-regs-16 : tie.Need-element-write-regs-16
+element-write-regs-16 c = search needs
+
 element-write-pos : tie.Need-element-write-pos
 element-write-pos c = search needs
 
 element-write-pos-2 : tie.Need-element-write-pos-2
 element-write-pos-2 c = search needs
 
+element-write-pos-3 : tie.Need-element-write-pos-3
+element-write-pos-3 c = search needs
+
+element-write-pos-4 : tie.Need-element-write-pos-4
+element-write-pos-4 c = search needs
+
 returns : tie.Need-returns
-returns c = let a = c .before .before .before .before .args in begins (a .regs .now) (a .pos .now) (c .before .before .nine .ensures) (c .two .ensures)
+returns c = let a = c .before .before .before .before .args in makes-fresh (a .regs .now) (a .pos .now) (c .before .before .regs-len .ensures) (c .pos-len .ensures)
 
 pub init-spec : {M : Type 1} → statement M
 init-spec =
     tie.close
     (tie.spec
-    nine-requires
-    two-requires
+    regs-len-requires
+    pos-len-requires
     element-write-regs
     element-write-regs-2
     element-write-regs-3
@@ -62,6 +89,15 @@ init-spec =
     element-write-regs-7
     element-write-regs-8
     element-write-regs-9
+    element-write-regs-10
+    element-write-regs-11
+    element-write-regs-12
+    element-write-regs-13
+    element-write-regs-14
+    element-write-regs-15
+    element-write-regs-16
     element-write-pos
     element-write-pos-2
+    element-write-pos-3
+    element-write-pos-4
     returns)

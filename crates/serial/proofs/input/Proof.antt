@@ -29,11 +29,11 @@ returns-3 : tie.Need-returns-3
 unfolding portOf
 returns-3 c = let a = c .before .before .before .before .before .before .before .before .args in line-full (a .regs .now) (a .pos .now) (a .ring .now) _ (c .before .count .ensures) _ (sym (c .before .before .before .before .before .is-loop .ensures) ∙ c .before .before .before .before .if1 .left) (c .before .before .before .if2 .left) (omega arith)
 
-nine-requires : tie.Need-nine-requires
-nine-requires c κs = search needs
+regs-len-requires : tie.Need-regs-len-requires
+regs-len-requires c κs = search needs
 
-two-requires : tie.Need-two-requires
-two-requires c κs = search needs
+pos-len-requires : tie.Need-pos-len-requires
+pos-len-requires c κs = search needs
 
 fitting-requires : tie.Need-fitting-requires
 fitting-requires c κs = search needs
@@ -61,7 +61,7 @@ add-result c = search needs
 
 returns-4 : tie.Need-returns-4
 unfolding portOf
-returns-4 c = let a = c .before .before .before .before .before .before .before .before .before .before .before .before .before .before .before .before .before .before .before .args in line-receives (a .regs .now) (a .pos .now) (a .ring .now) _ (c .before .before .before .before .before .before .before .before .before .before .before .before .count .ensures) _ (sym (c .before .before .before .before .before .before .before .before .before .before .before .before .before .before .before .before .is-loop .ensures) ∙ c .before .before .before .before .before .before .before .before .before .before .before .before .before .before .before .if1 .left) (c .before .before .before .before .before .before .before .before .before .before .before .before .before .before .if2 .left) (c .before .before .before .before .before .before .before .before .before .nine .ensures) (c .before .before .before .before .before .before .before .two .ensures) _ (c .before .before .before .before .before .before .before .before .before .before .before .if3 .left) (c .before .before .before .before .before .before .fitting .ensures) (c .before .before .before .fill .ensures) (c .receive .ensures) refl
+returns-4 c = let a = c .before .before .before .before .before .before .before .before .before .before .before .before .before .before .before .before .before .before .before .args in line-receives (a .regs .now) (a .pos .now) (a .ring .now) _ (c .before .before .before .before .before .before .before .before .before .before .before .before .count .ensures) _ (sym (c .before .before .before .before .before .before .before .before .before .before .before .before .before .before .before .before .is-loop .ensures) ∙ c .before .before .before .before .before .before .before .before .before .before .before .before .before .before .before .if1 .left) (c .before .before .before .before .before .before .before .before .before .before .before .before .before .before .if2 .left) (c .before .before .before .before .before .before .before .before .before .regs-len .ensures) (c .before .before .before .before .before .before .before .pos-len .ensures) _ (c .before .before .before .before .before .before .before .before .before .before .before .if3 .left) (c .before .before .before .before .before .before .fitting .ensures) (c .before .before .before .fill .ensures) (c .receive .ensures) refl
 
 pub input-spec : {M : Type 1} → statement M
 input-spec =
@@ -73,8 +73,8 @@ input-spec =
     returns-2
     count-requires
     returns-3
-    nine-requires
-    two-requires
+    regs-len-requires
+    pos-len-requires
     fitting-requires
     element-copy-out-fill
     fill-requires

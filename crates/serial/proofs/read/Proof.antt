@@ -76,8 +76,8 @@ returns-5 : tie.Need-returns-5
 unfolding portOf readRegister
 returns-5 c = let a = c .before .before .before .before .before .before .before .before .before .args in let one = c .before .before .before .before .before .match .keys1 in answers (a .regs .now) (a .pos .now) (a .ring .now) (a .offset) _ (at-ier _ _ (sym (c .before .before .before .is-open2 .ensures) ∙ c .before .before .if4 .left) (omega (arith, one)) (λ z. omega (arith, one))) refl (c .wide4 .ensures)
 
-nine-requires : tie.Need-nine-requires
-nine-requires c κs = search needs
+regs-len-requires : tie.Need-regs-len-requires
+regs-len-requires c κs = search needs
 
 element-copy-out-iir : tie.Need-element-copy-out-iir
 element-copy-out-iir c = search needs
@@ -93,7 +93,7 @@ wide-requires-5 c κs = search needs
 
 returns-6 : tie.Need-returns-6
 unfolding portOf
-returns-6 c = let a = c .before .before .before .before .before .before .before .before .before .args in answers-iir (a .regs .now) (a .pos .now) (a .ring .now) (c .before .before .before .nine .ensures) (a .offset) _ (c .before .before .before .before .before .match .keys2) (c .wide5 .ensures ∙ c .before .iir-read .ensures)
+returns-6 c = let a = c .before .before .before .before .before .before .before .before .before .args in answers-iir (a .regs .now) (a .pos .now) (a .ring .now) (c .before .before .before .regs-len .ensures) (a .offset) _ (c .before .before .before .before .before .match .keys2) (c .wide5 .ensures ∙ c .before .iir-read .ensures)
 
 element-copy-out-msr-read : tie.Need-element-copy-out-msr-read
 element-copy-out-msr-read c = search needs
@@ -157,7 +157,7 @@ read-spec =
     element-copy-out-wide-3
     wide-requires-4
     returns-5
-    nine-requires
+    regs-len-requires
     element-copy-out-iir
     element-write-regs
     iir-read-requires

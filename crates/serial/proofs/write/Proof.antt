@@ -8,8 +8,8 @@ use borrow.Author.Needs.{needs}
 use Rattle.serial.proofs.write.Statement.{statement}
 use Rattle.serial.proofs.write.Tie as tie
 
-nine-requires : tie.Need-nine-requires
-nine-requires c κs = search needs
+regs-len-requires : tie.Need-regs-len-requires
+regs-len-requires c κs = search needs
 
 element-copy-out-is-open : tie.Need-element-copy-out-is-open
 element-copy-out-is-open c = search needs
@@ -22,14 +22,14 @@ element-write-regs c = search needs
 
 returns : tie.Need-returns
 unfolding portOf
-returns c = let a = c .before .before .before .before .before .before .before .args in stores-dll (a .regs .now) (a .pos .now) (a .ring .now) (c .before .before .before .before .before .nine .ensures) _ _ (sym (c .before .before .is-open .ensures) ∙ c .before .if2 .taken) (c .if3 .taken)
+returns c = let a = c .before .before .before .before .before .before .before .args in stores-dll (a .regs .now) (a .pos .now) (a .ring .now) (c .before .before .before .before .before .regs-len .ensures) _ _ (sym (c .before .before .is-open .ensures) ∙ c .before .if2 .taken) (c .if3 .taken)
 
 element-write-regs-2 : tie.Need-element-write-regs-2
 element-write-regs-2 c = search needs
 
 returns-2 : tie.Need-returns-2
 unfolding portOf
-returns-2 c = let a = c .before .before .before .before .before .before .before .args in stores-dlm (a .regs .now) (a .pos .now) (a .ring .now) (c .before .before .before .before .before .nine .ensures) _ _ (sym (c .before .before .is-open .ensures) ∙ c .before .if2 .taken) (c .before .before .before .before .if1 .taken) (c .if3 .left)
+returns-2 c = let a = c .before .before .before .before .before .before .before .args in stores-dlm (a .regs .now) (a .pos .now) (a .ring .now) (c .before .before .before .before .before .regs-len .ensures) _ _ (sym (c .before .before .is-open .ensures) ∙ c .before .if2 .taken) (c .before .before .before .before .if1 .taken) (c .if3 .left)
 
 element-copy-out-is-loop : tie.Need-element-copy-out-is-loop
 element-copy-out-is-loop c = search needs
@@ -63,21 +63,21 @@ element-write-regs-3 c = search needs
 
 returns-6 : tie.Need-returns-6
 unfolding portOf
-returns-6 c = let a = c .before .before .before .before .args in stores-lcr (a .regs .now) (a .pos .now) (a .ring .now) (c .before .before .nine .ensures) _ _ (c .match .keys1)
+returns-6 c = let a = c .before .before .before .before .args in stores-lcr (a .regs .now) (a .pos .now) (a .ring .now) (c .before .before .regs-len .ensures) _ _ (c .match .keys1)
 
 element-write-regs-4 : tie.Need-element-write-regs-4
 element-write-regs-4 c = search needs
 
 returns-7 : tie.Need-returns-7
 unfolding portOf
-returns-7 c = let a = c .before .before .before .before .args in stores-mcr (a .regs .now) (a .pos .now) (a .ring .now) (c .before .before .nine .ensures) _ _ (c .match .keys2)
+returns-7 c = let a = c .before .before .before .before .args in stores-mcr (a .regs .now) (a .pos .now) (a .ring .now) (c .before .before .regs-len .ensures) _ _ (c .match .keys2)
 
 element-write-regs-5 : tie.Need-element-write-regs-5
 element-write-regs-5 c = search needs
 
 returns-8 : tie.Need-returns-8
 unfolding portOf
-returns-8 c = let a = c .before .before .before .before .args in stores-scr (a .regs .now) (a .pos .now) (a .ring .now) (c .before .before .nine .ensures) _ _ (c .match .keys3)
+returns-8 c = let a = c .before .before .before .before .args in stores-scr (a .regs .now) (a .pos .now) (a .ring .now) (c .before .before .regs-len .ensures) _ _ (c .match .keys3)
 
 returns-9 : tie.Need-returns-9
 unfolding portOf
@@ -87,7 +87,7 @@ pub write-spec : {M : Type 1} → statement M
 write-spec =
     tie.close
     (tie.spec
-    nine-requires
+    regs-len-requires
     element-copy-out-is-open
     is-open-requires
     element-write-regs

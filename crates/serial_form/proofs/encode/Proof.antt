@@ -1,15 +1,34 @@
 -- Assumes nothing.
+use mathlib.Core.Path.{_≡_, _∙_}
+use mathlib.Core.List.{List}
+use Prim.Native.Nat.{ℕ}
 use native.Mathlib.Omega.{arith}
-use Rattle.serial_form.proofs.Answers.{encode-refuses, encode-tells, encode-writes}
+use borrow.Author.Tests.{not-true, not-false}
+use Rattle.serial_form.specs.Calls.{hasNoSpare}
+use Rattle.serial_form.proofs.Answers.{as-found, encode-refuses, encode-refuses-spare, encode-tells, encode-writes}
 use borrow.Author.Needs.{needs}
 use Rattle.serial_form.proofs.encode.Statement.{statement}
 use Rattle.serial_form.proofs.encode.Tie as tie
 
-nine-requires : tie.Need-nine-requires
-nine-requires c κs = search needs
+regs-len-requires : tie.Need-regs-len-requires
+regs-len-requires c κs = search needs
 
 returns : tie.Need-returns
-returns c = encode-refuses _ _ _ (c .before .nine .ensures) (c .if1 .taken)
+returns c = encode-refuses _ _ _ (c .before .regs-len .ensures) (c .if1 .taken)
+
+are-spares-zero-requires : tie.Need-are-spares-zero-requires
+are-spares-zero-requires c κs = search needs
+
+-- whether the spare registers are 0
+abbrev saved : tie.After-are-spares-zero → List ℕ
+saved c = c .before .before .before .before .before .args .saved .now
+
+found : (c : tie.After-are-spares-zero) → hasNoSpare (saved c) ≡ c .are-spares-zero .result
+found c = as-found (saved c) _ (c .before .before .regs-len .ensures) (c .are-spares-zero .ensures)
+
+returns-2 : tie.Need-returns-2
+returns-2 c =
+    encode-refuses-spare _ _ _ (c .before .before .before .regs-len .ensures) (c .before .before .if1 .left) (found (c .before) ∙ not-true _ (c .if2 .taken))
 
 add-len : tie.Need-add-len
 add-len c = search needs
@@ -17,8 +36,10 @@ add-len c = search needs
 cast-result : tie.Need-cast-result
 cast-result c = search needs
 
-returns-2 : tie.Need-returns-2
-returns-2 c = encode-tells _ _ _ (c .before .before .nine .ensures) (c .before .if1 .left) (c .if2 .taken)
+returns-3 : tie.Need-returns-3
+returns-3 c =
+    encode-tells _ _ _ (c .before .before .before .before .regs-len .ensures) (c .before .before .before .if1 .left)
+    (found (c .before .before) ∙ not-false _ (c .before .if2 .left)) (c .if3 .taken)
 
 write-requires : tie.Need-write-requires
 write-requires c κs = search needs
@@ -29,21 +50,25 @@ cast-result-2 c = search needs
 same-length : tie.Need-same-length
 same-length c = search needs
 
-returns-3 : tie.Need-returns-3
-returns-3 c =
+returns-4 : tie.Need-returns-4
+returns-4 c =
     let end = c .before .before in
-    encode-writes _ _ _ (end .before .before .before .before .nine .ensures) (omega arith) (omega arith) (end .write .ensures)
+    let tested = end .before .before .before .before in
+    encode-writes _ _ _ (tested .before .before .regs-len .ensures) (omega arith) (found tested ∙ not-false _ (end .before .before .before .if2 .left)) (omega arith)
+    (end .write .ensures)
 
 pub encode-spec : {M : Type 1} → statement M
 encode-spec =
     tie.close
     (tie.spec
-    nine-requires
+    regs-len-requires
     returns
+    are-spares-zero-requires
+    returns-2
     add-len
     cast-result
-    returns-2
+    returns-3
     write-requires
     cast-result-2
     same-length
-    returns-3)
+    returns-4)

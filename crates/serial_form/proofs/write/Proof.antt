@@ -4,11 +4,20 @@ use borrow.Author.Needs.{needs}
 use Rattle.serial_form.proofs.write.Statement.{statement}
 use Rattle.serial_form.proofs.write.Tie as tie
 
-nine-requires : tie.Need-nine-requires
-nine-requires c κs = search needs
+regs-len-requires : tie.Need-regs-len-requires
+regs-len-requires c κs = search needs
 
 put-number-requires : tie.Need-put-number-requires
 put-number-requires c κs = search needs
+
+sub-put : tie.Need-sub-put
+sub-put c = search needs
+
+part-put-start : tie.Need-part-put-start
+part-put-start c = search needs
+
+part-put-end : tie.Need-part-put-end
+part-put-end c = search needs
 
 put-requires : tie.Need-put-requires
 put-requires c κs = search needs
@@ -27,16 +36,19 @@ returns c =
     let fourth = c .before .before in
     let third = fourth .before .before .before .before in
     let second = third .before .before .before .before in
-    let first = second .before .before .before .before .before in
-    writes _ _ _ (first .before .before .nine .ensures) (first .put-number .ensures) (second .put .ensures) (third .put-number2 .ensures)
+    let first = second .before .before .before .before .before .before in
+    writes _ _ _ (first .before .before .regs-len .ensures) (first .put-number .ensures) (second .put .ensures) (third .put-number2 .ensures)
     (fourth .put2 .ensures)
 
 pub write-spec : {M : Type 1} → statement M
 write-spec =
     tie.close
     (tie.spec
-    nine-requires
+    regs-len-requires
     put-number-requires
+    sub-put
+    part-put-start
+    part-put-end
     put-requires
     put-number-requires-2
     put-requires-2

@@ -2,7 +2,7 @@
 -- Assumes nothing.
 use Rattle.serial_lines.proofs.Saying.{port-said}
 use Rattle.serial.specs.Ring.{queue}
-use Rattle.serial.specs.Layout.{capacity}
+use Rattle.serial.specs.Layout.{places}
 use Rattle.words.proofs.Putting.{both}
 use Rattle.serial.specs.Layout.{portOf}
 use Rattle.serial_saved.specs.Saved.{savedOf}
@@ -18,7 +18,7 @@ put-waiting-requires c κs = search needs
 
 returns : tie.Need-returns
 unfolding savedOf portOf
-returns c = (port-said (c .before .before .before .before .args .regs .now) (queue capacity (c .before .before .before .before .args .ring .now) (c .before .before .before .before .args .start) (c .before .before .before .before .args .count)) (c .before .before .put-regs .ensures .0) (c .put-waiting .ensures .0), search needs)
+returns c = (port-said (c .before .before .before .before .args .regs .now) (queue places (c .before .before .before .before .args .ring .now) (c .before .before .before .before .args .start) (c .before .before .before .before .args .count)) (c .before .before .put-regs .ensures .0) (c .put-waiting .ensures .0), search needs)
 
 pub put-port-spec : {M : Type 1} → statement M
 put-port-spec = tie.close (tie.spec put-regs-requires put-waiting-requires returns)

@@ -3,7 +3,7 @@
 use Rattle.serial_lines.proofs.Saying.{none-yet, one-more, all-there}
 use Rattle.words.specs.Put.{Puts}
 use Rattle.serial.specs.Ring.{queue}
-use Rattle.serial.specs.Layout.{capacity}
+use Rattle.serial.specs.Layout.{places}
 use Rattle.serial_lines.specs.Answers.{bytesSay}
 use Prim.Native.Nat.{_+_, _-_, _≤_, _<_}
 use mathlib.Core.Path.{_≡_}
@@ -14,7 +14,7 @@ use Rattle.serial_lines.proofs.put_ring.Statement.{statement}
 use Rattle.serial_lines.proofs.put_ring.Tie as tie
 
 abbrev Inv-loop : tie.InvT-loop
-Inv-loop out₀ at start count ring i₀ next₀ out i next = (i ≤ count) × (next ≡ at + i + i) × Puts out₀ at (bytesSay (queue capacity ring start i)) out next
+Inv-loop out₀ at start count ring i₀ next₀ out i next = (i ≤ count) × (next ≡ at + i + i) × Puts out₀ at (bytesSay (queue places ring start i)) out next
 
 abbrev μ-loop : tie.MeasureT-loop
 μ-loop out₀ at start count ring i₀ next₀ out i next = count - i

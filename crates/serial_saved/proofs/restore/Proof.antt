@@ -14,8 +14,8 @@ returns c =
     let a = c .before .before .args in
     refuses (a .saved .now) (a .waiting .now) (a .regs .now) (a .pos .now) (a .ring .now) (omega (arith, c .if1 .taken))
 
-two-requires : tie.Need-two-requires
-two-requires c κs = search needs
+pos-len-requires : tie.Need-pos-len-requires
+pos-len-requires c κs = search needs
 
 copy-requires : tie.Need-copy-requires
 copy-requires c κs = search needs
@@ -38,6 +38,9 @@ is-reachable-requires c κs = search needs
 cast-told : tie.Need-cast-told
 cast-told c = search needs
 
+mul-result : tie.Need-mul-result
+mul-result c = omega (arith, as-number (c .is-reachable .result) .1)
+
 raises-requires : tie.Need-raises-requires
 raises-requires c κs = search needs
 
@@ -47,8 +50,8 @@ raised c =
     let a = c .before .before .before .before .before .before .before .before .before .before .args in
     omega (arith, c .raises .ensures (a .waiting .now), at-most-two (savedOf (a .saved .now) (a .waiting .now)))
 
-mul-result : tie.Need-mul-result
-mul-result c = omega (arith, raised c)
+mul-result-2 : tie.Need-mul-result-2
+mul-result-2 c = omega (arith, raised c)
 
 add-result : tie.Need-add-result
 add-result c = omega (arith, raised c, as-number (c .before .is-reachable .result) .1)
@@ -57,7 +60,7 @@ returns-2 : tie.Need-returns-2
 returns-2 c =
     let a = c .before .before .before .before .before .before .before .before .before .before .args in
     restores (a .saved .now) (a .waiting .now) (a .regs .now) (a .pos .now) (a .ring .now) _ _ _ _ (omega (arith, c .before .before .before .before .before .before .before .before .if1 .left))
-    (c .before .before .before .before .before .before .two .ensures) (c .before .before .before .before .copy .ensures) (c .before .before .fill .ensures)
+    (c .before .before .before .before .before .before .pos-len .ensures) (c .before .before .before .before .copy .ensures) (c .before .before .fill .ensures)
     (c .before .is-reachable .ensures) (c .raises .ensures (a .waiting .now))
 
 pub restore-spec : {M : Type 1} → statement M
@@ -65,7 +68,7 @@ restore-spec =
     tie.close
     (tie.spec
     returns
-    two-requires
+    pos-len-requires
     copy-requires
     element-write-pos
     cast-pos
@@ -73,7 +76,8 @@ restore-spec =
     fill-requires
     is-reachable-requires
     cast-told
-    raises-requires
     mul-result
+    raises-requires
+    mul-result-2
     add-result
     returns-2)

@@ -12,14 +12,14 @@ Inv-loop ring start n waiting₀ from end i₀ waiting i = SoFar ring start n wa
 abbrev μ-loop : tie.MeasureT-loop
 μ-loop ring start n waiting₀ from end i₀ waiting i = n - i
 
-whole-requires : tie.Need-whole-requires Inv-loop μ-loop
-whole-requires c κs = search needs
+ring-len-requires : tie.Need-ring-len-requires Inv-loop μ-loop
+ring-len-requires c κs = search needs
 
 cast-from : tie.Need-cast-from Inv-loop μ-loop
 cast-from c = search needs
 
 loop-holds : tie.Need-loop-holds Inv-loop μ-loop
-loop-holds c = none-yet _ _ _ _ (c .whole .ensures)
+loop-holds c = none-yet _ _ _ _ (c .ring-len .ensures)
 
 add-waiting : tie.Need-add-waiting Inv-loop μ-loop
 add-waiting c = search needs
@@ -48,7 +48,7 @@ unroll-spec =
     (tie.spec
     Inv-loop
     μ-loop
-    whole-requires
+    ring-len-requires
     cast-from
     loop-holds
     add-waiting

@@ -15,8 +15,8 @@ element-copy-out-is-due c = search needs
 is-due-requires : tie.Need-is-due-requires
 is-due-requires c κs = search needs
 
-nine-requires : tie.Need-nine-requires
-nine-requires c κs = search needs
+regs-len-requires : tie.Need-regs-len-requires
+regs-len-requires c κs = search needs
 
 mark-requires : tie.Need-mark-requires
 mark-requires c κs = search needs
@@ -37,7 +37,7 @@ announce-spec =
     element-copy-out-iir
     element-copy-out-is-due
     is-due-requires
-    nine-requires
+    regs-len-requires
     mark-requires
     element-write-regs
     returns

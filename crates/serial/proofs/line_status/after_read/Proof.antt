@@ -6,8 +6,8 @@ use borrow.Author.Needs.{needs}
 use Rattle.serial.proofs.line_status.after_read.Statement.{statement}
 use Rattle.serial.proofs.line_status.after_read.Tie as tie
 
-nine-requires : tie.Need-nine-requires
-nine-requires c κs = search needs
+regs-len-requires : tie.Need-regs-len-requires
+regs-len-requires c κs = search needs
 
 element-copy-out-regs : tie.Need-element-copy-out-regs
 element-copy-out-regs c = search needs
@@ -23,4 +23,4 @@ returns-2 c = some-left _ _ (c .if1 .left)
 
 pub after-read-spec : {M : Type 1} → statement M
 after-read-spec =
-    tie.close (tie.spec nine-requires element-copy-out-regs element-write-regs returns returns-2)
+    tie.close (tie.spec regs-len-requires element-copy-out-regs element-write-regs returns returns-2)

@@ -6,8 +6,8 @@ use borrow.Author.Needs.{needs}
 use Rattle.serial.proofs.receiver.read_any_rbr.Statement.{statement}
 use Rattle.serial.proofs.receiver.read_any_rbr.Tie as tie
 
-nine-requires : tie.Need-nine-requires
-nine-requires c κs = search needs
+regs-len-requires : tie.Need-regs-len-requires
+regs-len-requires c κs = search needs
 
 count-requires : tie.Need-count-requires
 count-requires c κs = search needs
@@ -28,7 +28,7 @@ returns : tie.Need-returns
 unfolding portOf
 returns c =
     let a = c .before .before .before .before .before .before .before .before .before .args in
-    reads-none (a .regs .now) (a .pos .now) (a .ring .now) (c .before .before .before .before .before .before .before .nine .ensures) _ (c .before .before .before .unmark-received-data .ensures) _ (c .before .before .before .before .before .count .ensures) (c .before .before .if1 .taken) (c .after-read .ensures)
+    reads-none (a .regs .now) (a .pos .now) (a .ring .now) (c .before .before .before .before .before .before .before .regs-len .ensures) _ (c .before .before .before .unmark-received-data .ensures) _ (c .before .before .before .before .before .count .ensures) (c .before .before .if1 .taken) (c .after-read .ensures)
 
 sub-after-read : tie.Need-sub-after-read
 sub-after-read c = search needs
@@ -46,13 +46,13 @@ returns-2 : tie.Need-returns-2
 unfolding portOf
 returns-2 c =
     let a = c .before .before .before .before .before .before .before .before .before .before .before .before .args in
-    reads-first (a .regs .now) (a .pos .now) (a .ring .now) (c .before .before .before .before .before .before .before .before .before .before .nine .ensures) _ (c .before .before .before .before .before .before .unmark-received-data .ensures) _ (c .before .before .before .before .before .before .before .before .count .ensures) _ (rw (c .wide .ensures) (c .before .take .ensures)) (c .before .before .before .before .before .if1 .left) (c .before .before .before .after-read2 .ensures)
+    reads-first (a .regs .now) (a .pos .now) (a .ring .now) (c .before .before .before .before .before .before .before .before .before .before .regs-len .ensures) _ (c .before .before .before .before .before .before .unmark-received-data .ensures) _ (c .before .before .before .before .before .before .before .before .count .ensures) _ (rw (c .wide .ensures) (c .before .take .ensures)) (c .before .before .before .before .before .if1 .left) (c .before .before .before .after-read2 .ensures)
 
 pub read-any-rbr-spec : {M : Type 1} → statement M
 read-any-rbr-spec =
     tie.close
     (tie.spec
-    nine-requires
+    regs-len-requires
     count-requires
     element-copy-out-unmark-received-data
     unmark-received-data-requires

@@ -5,7 +5,7 @@ use native.Mathlib.Omega.{arith}
 use Prim.Native.Nat.{_-_, _≤_}
 use lib.ListN.{getD}
 use Rattle.serial.specs.Interrupts.{receivedData, unmark}
-use Rattle.serial.specs.Layout.{capacity, portOf}
+use Rattle.serial.specs.Layout.{size, portOf}
 use Rattle.serial.proofs.Leaves.{some-left}
 use Rattle.serial.proofs.Reading.{reads-unmarked}
 use borrow.Author.Needs.{needs}
@@ -21,8 +21,8 @@ element-copy-out-is-unmarked c = search needs
 is-unmarked-requires : tie.Need-is-unmarked-requires
 is-unmarked-requires c κs = search needs
 
-nine-requires : tie.Need-nine-requires
-nine-requires c κs = search needs
+regs-len-requires : tie.Need-regs-len-requires
+regs-len-requires c κs = search needs
 
 several-requires : tie.Need-several-requires
 several-requires c κs = search needs
@@ -31,7 +31,7 @@ several-requires c κs = search needs
 unmarked : (c : tie.Then1) → let iir = getD (c .before .before .before .before .args .regs .now) 2 0 in unmark iir receivedData ≡ iir
 unmarked c = c .before .is-unmarked .ensures (c .if1 .taken)
 
-several : (c : tie.Then2) → let n = getD (c .before .before .before .before .before .before .before .before .args .pos .now) 1 0 in (2 ≤ n) × (n ≤ capacity)
+several : (c : tie.Then2) → let n = getD (c .before .before .before .before .before .before .before .before .args .pos .now) 1 0 in (2 ≤ n) × (n ≤ size)
 several c = c .before .several .ensures (c .if2 .taken)
 
 take-requires : tie.Need-take-requires
@@ -45,7 +45,7 @@ unfolding portOf
 returns c =
     let a = c .before .before .before .before .before .before .before .before .before .before .before .args in
     let s = several (c .before .before .before) in
-    reads-unmarked (a .regs .now) (a .pos .now) (a .ring .now) (c .before .before .before .before .before .nine .ensures) _ _ (omega (arith, s .1)) (unmarked (c .before .before .before .before .before .before .before)) (rw (c .wide .ensures) (c .before .take .ensures)) (λ z. omega (arith, s .0))
+    reads-unmarked (a .regs .now) (a .pos .now) (a .ring .now) (c .before .before .before .before .before .regs-len .ensures) _ _ (omega (arith, s .1)) (unmarked (c .before .before .before .before .before .before .before)) (rw (c .wide .ensures) (c .before .take .ensures)) (λ z. omega (arith, s .0))
     (some-left (a .regs .now) (getD (a .pos .now) 1 0 - 1) (λ z. omega (arith, s .0)))
 
 after-read-requires : tie.Need-after-read-requires
@@ -63,7 +63,7 @@ returns-2 c =
     let a = c .before .before .before .before .before .before .before .before .before .before .before .before .before .before .args in
     let n = getD (a .pos .now) 1 0 in
     let one : n ≡ 1 = c .before .before .before .before .before .if3 .taken in
-    reads-unmarked (a .regs .now) (a .pos .now) (a .ring .now) (c .before .before .before .before .before .before .before .before .nine .ensures) n _ (omega (arith, one)) (unmarked (c .before .before .before .before .before .before .before .before .before .before)) (rw (c .wide2 .ensures) (c .before .take2 .ensures)) (λ z. omega (arith, one))
+    reads-unmarked (a .regs .now) (a .pos .now) (a .ring .now) (c .before .before .before .before .before .before .before .before .regs-len .ensures) n _ (omega (arith, one)) (unmarked (c .before .before .before .before .before .before .before .before .before .before)) (rw (c .wide2 .ensures) (c .before .take2 .ensures)) (λ z. omega (arith, one))
     (rw one (c .before .before .before .after-read .ensures))
 
 read-any-rbr-requires : tie.Need-read-any-rbr-requires
@@ -85,7 +85,7 @@ read-rbr-spec =
     element-copy-out-n
     element-copy-out-is-unmarked
     is-unmarked-requires
-    nine-requires
+    regs-len-requires
     several-requires
     take-requires
     wide-requires

@@ -5,11 +5,11 @@ use borrow.Author.Needs.{needs}
 use Rattle.serial.proofs.receiver.receive.Statement.{statement}
 use Rattle.serial.proofs.receiver.receive.Tie as tie
 
-nine-requires : tie.Need-nine-requires
-nine-requires c κs = search needs
+regs-len-requires : tie.Need-regs-len-requires
+regs-len-requires c κs = search needs
 
-two-requires : tie.Need-two-requires
-two-requires c κs = search needs
+pos-len-requires : tie.Need-pos-len-requires
+pos-len-requires c κs = search needs
 
 element-copy-out-lsr : tie.Need-element-copy-out-lsr
 element-copy-out-lsr c = search needs
@@ -33,8 +33,8 @@ pub receive-spec : {M : Type 1} → statement M
 receive-spec =
     tie.close
     (tie.spec
-    nine-requires
-    two-requires
+    regs-len-requires
+    pos-len-requires
     element-copy-out-lsr
     element-write-pos
     announce-received-data-requires

@@ -13,11 +13,11 @@ count-requires c κs = search needs
 returns : tie.Need-returns
 returns c = let a = c .before .before .before .args in loop-drops (a .regs .now) (a .pos .now) (a .ring .now) _ (c .before .count .ensures) _ (omega arith)
 
-nine-requires : tie.Need-nine-requires
-nine-requires c κs = search needs
+regs-len-requires : tie.Need-regs-len-requires
+regs-len-requires c κs = search needs
 
-two-requires : tie.Need-two-requires
-two-requires c κs = search needs
+pos-len-requires : tie.Need-pos-len-requires
+pos-len-requires c κs = search needs
 
 element-copy-out-push : tie.Need-element-copy-out-push
 element-copy-out-push c = search needs
@@ -35,7 +35,7 @@ mul-result : tie.Need-mul-result
 mul-result c = search needs
 
 returns-2 : tie.Need-returns-2
-returns-2 c = let a = c .before .before .before .before .before .before .before .before .before .before .before .before .before .args in loop-receives (a .regs .now) (a .pos .now) (a .ring .now) _ (c .before .before .before .before .before .before .before .before .before .before .before .count .ensures) (c .before .before .before .before .before .before .before .before .nine .ensures) (c .before .before .before .before .before .before .two .ensures) _ (c .before .before .before .before .before .before .before .before .before .before .if1 .left) (c .before .before .before .push .ensures) (c .receive .ensures) refl
+returns-2 c = let a = c .before .before .before .before .before .before .before .before .before .before .before .before .before .args in loop-receives (a .regs .now) (a .pos .now) (a .ring .now) _ (c .before .before .before .before .before .before .before .before .before .before .before .count .ensures) (c .before .before .before .before .before .before .before .before .regs-len .ensures) (c .before .before .before .before .before .before .pos-len .ensures) _ (c .before .before .before .before .before .before .before .before .before .before .if1 .left) (c .before .before .before .push .ensures) (c .receive .ensures) refl
 
 pub write-loop-spec : {M : Type 1} → statement M
 write-loop-spec =
@@ -43,8 +43,8 @@ write-loop-spec =
     (tie.spec
     count-requires
     returns
-    nine-requires
-    two-requires
+    regs-len-requires
+    pos-len-requires
     element-copy-out-push
     push-requires
     add-receive

@@ -1,26 +1,26 @@
 -- The loop's invariant and its laws are of `RingLaws`.
 -- Assumes nothing.
 use Prim.Native.Nat.{_-_}
-use Rattle.serial.specs.Layout.{capacity}
+use Rattle.serial.specs.Layout.{places}
 use Rattle.serial.proofs.RingLaws.{SoFar, none-yet, one-more-there, all-there}
 use borrow.Author.Needs.{needs}
 use Rattle.serial.proofs.ring.fill.Statement.{statement}
 use Rattle.serial.proofs.ring.fill.Tie as tie
 
 abbrev Inv-loop : tie.InvT-loop
-Inv-loop ring₀ start n input k from i₀ ring i = SoFar capacity ring₀ start n input k from ring i
+Inv-loop ring₀ start n input k from i₀ ring i = SoFar places ring₀ start n input k from ring i
 
 abbrev μ-loop : tie.MeasureT-loop
 μ-loop ring₀ start n input k from i₀ ring i = k - i
 
-whole-requires : tie.Need-whole-requires Inv-loop μ-loop
-whole-requires c κs = search needs
+ring-len-requires : tie.Need-ring-len-requires Inv-loop μ-loop
+ring-len-requires c κs = search needs
 
 place-requires : tie.Need-place-requires Inv-loop μ-loop
 place-requires c κs = search needs
 
 loop-holds : tie.Need-loop-holds Inv-loop μ-loop
-loop-holds c = none-yet capacity _ _ _ _ _ _ (c .before .whole .ensures) (c .place .ensures)
+loop-holds c = none-yet places _ _ _ _ _ _ (c .before .ring-len .ensures) (c .place .ensures)
 
 shared-slice-read-ring : tie.Need-shared-slice-read-ring Inv-loop μ-loop
 shared-slice-read-ring c = search needs
@@ -38,10 +38,10 @@ loop-less : tie.Need-loop-less Inv-loop μ-loop
 loop-less c = search needs
 
 loop-again : tie.Need-loop-again Inv-loop μ-loop
-loop-again c = let given = c .before .before .before .before .before .before .before .pre in one-more-there capacity _ _ _ _ _ _ _ _ (given .0) (given .1) (c .before .loop-test .taken) (c .before .before .loop .inv)
+loop-again c = let given = c .before .before .before .before .before .before .before .pre in one-more-there places _ _ _ _ _ _ _ _ (given .0) (given .1) (c .before .loop-test .taken) (c .before .before .loop .inv)
 
 returns : tie.Need-returns Inv-loop μ-loop
-returns c = all-there capacity _ _ _ _ _ _ _ _ (c .loop-test .left) (c .before .loop .inv)
+returns c = all-there places _ _ _ _ _ _ _ _ (c .loop-test .left) (c .before .loop .inv)
 
 pub fill-spec : {M : Type 1} → statement M
 fill-spec =
@@ -49,7 +49,7 @@ fill-spec =
     (tie.spec
     Inv-loop
     μ-loop
-    whole-requires
+    ring-len-requires
     place-requires
     loop-holds
     shared-slice-read-ring

@@ -4,8 +4,8 @@ use borrow.Author.Needs.{needs}
 use Rattle.serial.proofs.ring.take.Statement.{statement}
 use Rattle.serial.proofs.ring.take.Tie as tie
 
-two-requires : tie.Need-two-requires
-two-requires c κs = search needs
+pos-len-requires : tie.Need-pos-len-requires
+pos-len-requires c κs = search needs
 
 element-copy-out-start : tie.Need-element-copy-out-start
 element-copy-out-start c = search needs
@@ -26,13 +26,13 @@ first-requires : tie.Need-first-requires
 first-requires c κs = search needs
 
 returns : tie.Need-returns
-returns c = record { long = c .before .before .before .two .ensures; moved = rw (c .before .next .ensures); byte = c .first .ensures }
+returns c = record { long = c .before .before .before .pos-len .ensures; moved = rw (c .before .next .ensures); byte = c .first .ensures }
 
 pub take-spec : {M : Type 1} → statement M
 take-spec =
     tie.close
     (tie.spec
-    two-requires
+    pos-len-requires
     element-copy-out-start
     next-requires
     element-write-pos

@@ -6,8 +6,8 @@ use borrow.Author.Needs.{needs}
 use Rattle.serial.proofs.transmitter.write_line.Statement.{statement}
 use Rattle.serial.proofs.transmitter.write_line.Tie as tie
 
-nine-requires : tie.Need-nine-requires
-nine-requires c κs = search needs
+regs-len-requires : tie.Need-regs-len-requires
+regs-len-requires c κs = search needs
 
 wide-requires : tie.Need-wide-requires
 wide-requires c κs = search needs
@@ -25,13 +25,13 @@ add-result-2 : tie.Need-add-result-2
 add-result-2 c = search needs
 
 returns : tie.Need-returns
-returns c = λ pos ring. line-sends (c .before .before .before .before .before .args .regs .now) pos ring (c .before .before .before .nine .ensures) _ (c .announce-transmitter-empty .ensures) (omega (arith, c .before .before .wide .ensures))
+returns c = λ pos ring. line-sends (c .before .before .before .before .before .args .regs .now) pos ring (c .before .before .before .regs-len .ensures) _ (c .announce-transmitter-empty .ensures) (omega (arith, c .before .before .wide .ensures))
 
 pub write-line-spec : {M : Type 1} → statement M
 write-line-spec =
     tie.close
     (tie.spec
-    nine-requires
+    regs-len-requires
     wide-requires
     add-result
     announce-transmitter-empty-requires

@@ -15,8 +15,8 @@ fits-requires c κs = search needs
 save-requires : tie.Need-save-requires
 save-requires c κs = search needs
 
-whole-requires : tie.Need-whole-requires
-whole-requires c κs = search needs
+ring-len-requires : tie.Need-ring-len-requires
+ring-len-requires c κs = search needs
 
 slice-aggregate-put : tie.Need-slice-aggregate-put
 slice-aggregate-put c = search needs
@@ -31,7 +31,7 @@ put-port-requires : tie.Need-put-port-requires
 put-port-requires c κs = search needs
 
 returns : tie.Need-returns
-returns c = (by-save _ _ (sym (c .before .before .before .before .before .before .before .before .before .before .before .before .before .before .before .before .before .before .fits2 .ensures) ∙ c .before .before .before .before .before .before .before .before .before .before .before .before .before .before .before .before .before .if1 .taken) (c .before .before .before .before .before .before .before .before .before .before .before .save .ensures) (c .before .before .before .before .before .before .before .before .before .whole .ensures) (c .before .before .capped .ensures .0) (c .before .before .before .before .before .before .put .ensures) (c .put-port .ensures .0) (search needs), search needs)
+returns c = (by-save _ _ (sym (c .before .before .before .before .before .before .before .before .before .before .before .before .before .before .before .before .before .before .fits2 .ensures) ∙ c .before .before .before .before .before .before .before .before .before .before .before .before .before .before .before .before .before .if1 .taken) (c .before .before .before .before .before .before .before .before .before .before .before .save .ensures) (c .before .before .before .before .before .before .before .before .before .ring-len .ensures) (c .before .before .capped .ensures .0) (c .before .before .before .before .before .before .put .ensures) (c .put-port .ensures .0) (search needs), search needs)
 
 slice-aggregate-fits-2 : tie.Need-slice-aggregate-fits-2
 slice-aggregate-fits-2 c = search needs
@@ -61,7 +61,7 @@ restore-requires : tie.Need-restore-requires
 restore-requires c κs = search needs
 
 returns-3 : tie.Need-returns-3
-returns-3 c = (by-registers _ _ (sym (c .before .before .before .before .before .before .before .before .before .before .before .before .before .before .before .fits2 .ensures) ∙ c .before .before .before .before .before .before .before .before .before .before .before .before .before .before .if1 .left) (sym (c .before .before .before .before .before .before .before .before .before .before .before .before .fits3 .ensures) ∙ c .before .before .before .before .before .before .before .before .before .before .before .if2 .left) _ (sym (c .before .before .before .before .before .before .before .before .before .fits4 .ensures) ∙ c .before .before .before .before .before .before .before .before .if3 .taken) (c .before .before .before .before .before .before .before .regs-in .ensures) (c .restore .ensures .0) (search needs), search needs)
+returns-3 c = (by-registers _ _ (sym (c .before .before .before .before .before .before .before .before .before .before .before .before .before .before .before .fits2 .ensures) ∙ c .before .before .before .before .before .before .before .before .before .before .before .before .before .before .if1 .left) (sym (c .before .before .before .before .before .before .before .before .before .before .before .before .fits3 .ensures) ∙ c .before .before .before .before .before .before .before .before .before .before .before .if2 .left) _ (sym (c .before .before .before .before .before .before .before .before .before .fits4 .ensures) ∙ c .before .before .before .before .before .before .before .before .if3 .taken) (c .before .before .before .before .before .before .before .regs-in .ensures .0) (c .before .before .before .before .before .before .before .regs-in .ensures .1) (c .restore .ensures .0) (search needs), search needs)
 
 slice-aggregate-begins : tie.Need-slice-aggregate-begins
 slice-aggregate-begins c = search needs
@@ -88,7 +88,7 @@ answer-spec =
     slice-aggregate-fits
     fits-requires
     save-requires
-    whole-requires
+    ring-len-requires
     slice-aggregate-put
     put-requires
     capped-requires

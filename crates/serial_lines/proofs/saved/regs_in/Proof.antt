@@ -1,6 +1,7 @@
--- Nine registers, one after the other.
+-- Nine registers, one after the other, and what is spare.
 -- Assumes nothing.
 use Rattle.serial_lines.proofs.Saying.{nine}
+use mathlib.Core.Path.{refl}
 use borrow.Author.Needs.{needs}
 use Rattle.serial_lines.proofs.saved.regs_in.Statement.{statement}
 use Rattle.serial_lines.proofs.saved.regs_in.Tie as tie
@@ -33,7 +34,7 @@ byte-at-requires-9 : tie.Need-byte-at-requires-9
 byte-at-requires-9 c κs = search needs
 
 returns : tie.Need-returns
-returns c = nine _ (c .before .before .before .before .before .before .before .before .byte-at .ensures) (c .before .before .before .before .before .before .before .byte-at2 .ensures) (c .before .before .before .before .before .before .byte-at3 .ensures) (c .before .before .before .before .before .byte-at4 .ensures) (c .before .before .before .before .byte-at5 .ensures) (c .before .before .before .byte-at6 .ensures) (c .before .before .byte-at7 .ensures) (c .before .byte-at8 .ensures) (c .byte-at9 .ensures)
+returns c = (nine _ (c .before .before .before .before .before .before .before .before .byte-at .ensures) (c .before .before .before .before .before .before .before .byte-at2 .ensures) (c .before .before .before .before .before .before .byte-at3 .ensures) (c .before .before .before .before .before .byte-at4 .ensures) (c .before .before .before .before .byte-at5 .ensures) (c .before .before .before .byte-at6 .ensures) (c .before .before .byte-at7 .ensures) (c .before .byte-at8 .ensures) (c .byte-at9 .ensures), refl)
 
 pub regs-in-spec : {M : Type 1} → statement M
 regs-in-spec =

@@ -2,7 +2,7 @@
 -- Assumes nothing.
 use mathlib.Core.Path.{refl}
 use native.Mathlib.Omega.{arith}
-use Rattle.serial_saved.proofs.Testing.{wide-ier, other-msr, other-lsr, other-marks, never-read, decided}
+use Rattle.serial_saved.proofs.Testing.{wide-ier, other-msr, other-lsr, other-marks, never-read, left-full, decided}
 use borrow.Author.Needs.{needs}
 use Rattle.serial_saved.proofs.reachable.is_reachable.Statement.{statement}
 use Rattle.serial_saved.proofs.reachable.is_reachable.Tie as tie
@@ -64,15 +64,23 @@ is-receiver-read-requires c κs = search needs
 
 returns-6 : tie.Need-returns-6
 returns-6 c =
-    let a = c .before .before .before .before .before .before .before .before .before .before .before .before .before .before .before .before .before .args in
+    let a = c .before .before .before .before .before .before .before .before .before .before .before .before .before .before .before .before .before .before .args in
+    left-full (a .saved .now) (a .waiting .now) (c .before .is-receiver-read .ensures (a .waiting .now) refl) (c .if6 .taken)
+
+are-spares-zero-requires : tie.Need-are-spares-zero-requires
+are-spares-zero-requires c κs = search needs
+
+returns-7 : tie.Need-returns-7
+returns-7 c =
+    let a = c .before .before .before .before .before .before .before .before .before .before .before .before .before .before .before .before .before .before .before .args in
     decided (a .saved .now) (a .waiting .now)
-    (c .before .before .before .before .before .before .before .before .before .before .before .before .before .before .all-bytes .ensures)
-    (c .before .before .before .before .before .before .before .before .before .before .before .before .before .all-bytes2 .ensures)
-    (c .before .before .before .before .before .before .before .before .before .before .before .before .before .before .before .before .before .pre)
-    (omega (arith, c .before .before .before .before .before .before .before .before .before .before .if1 .left)) (c .before .before .before .before .before .before .before .before .if2 .left)
-    (c .before .before .before .before .before .before .status .ensures (a .waiting .now) refl) (c .before .before .before .before .before .if3 .left)
-    (c .before .before .before .before .are-marks .ensures (a .waiting .now) refl) (c .before .before .before .if4 .left)
-    (c .before .before .is-transmitter-read .ensures) (c .before .if5 .left) (c .is-receiver-read .ensures (a .waiting .now) refl)
+    (c .before .before .before .before .before .before .before .before .before .before .before .before .before .before .before .before .all-bytes .ensures)
+    (c .before .before .before .before .before .before .before .before .before .before .before .before .before .before .before .all-bytes2 .ensures)
+    (c .before .before .before .before .before .before .before .before .before .before .before .before .before .before .before .before .before .before .before .pre)
+    (omega (arith, c .before .before .before .before .before .before .before .before .before .before .before .before .if1 .left)) (c .before .before .before .before .before .before .before .before .before .before .if2 .left)
+    (c .before .before .before .before .before .before .before .before .status .ensures (a .waiting .now) refl) (c .before .before .before .before .before .before .before .if3 .left)
+    (c .before .before .before .before .before .before .are-marks .ensures (a .waiting .now) refl) (c .before .before .before .before .before .if4 .left)
+    (c .before .before .before .before .is-transmitter-read .ensures) (c .before .before .before .if5 .left) (c .before .before .is-receiver-read .ensures (a .waiting .now) refl) (c .before .if6 .left) (c .are-spares-zero .ensures)
 
 pub is-reachable-spec : {M : Type 1} → statement M
 is-reachable-spec =
@@ -93,4 +101,6 @@ is-reachable-spec =
     is-transmitter-read-requires
     returns-5
     is-receiver-read-requires
-    returns-6)
+    returns-6
+    are-spares-zero-requires
+    returns-7)
