@@ -1,16 +1,21 @@
--- How the clock lies in the caller's six words, how a register's number lies in four bytes, and what the entry points
--- promise of both. Any six words are some clock. An access is of four bytes, always: DIFFERENCES, "clock-width".
-use Prim.Native.Nat.{ℕ, _+_, _*_, _^_}
+-- How the clock lies in the caller's eight words, how a register's number lies in four bytes, and what the entry points
+-- promise of both. Any eight words are some clock. An access is of four bytes, always: DIFFERENCES, "clock-width".
+use Prim.Native.Nat.{ℕ, _+_, _*_, _^_, _<_}
 use mathlib.Core.Path.{_≡_}
-use mathlib.Core.Bool.{Bool, true, false, cond}
-use mathlib.Core.List.{List}
-use lib.Dec.{ltb}
+use mathlib.Core.Bool.{Bool, true, cond, _&&_}
+use mathlib.Core.List.{List, [], _∷_}
+use lib.Dec.{eqb, ltb}
 use lib.IntN.{ℤ, pos, _-ℤ_}
-use lib.ListN.{getD}
+use lib.ListN.{length, getD}
 use Rattle.common.specs.Bytes.{bytesOf}
-use Rattle.clock.specs.Registers.{Clock, Reply, says, refused, Change, becomes, ignored}
+use Rattle.clock.specs.Registers.{Clock, fresh, Reply, says, refused, Change, becomes, ignored}
 
 -- ---- Words
+
+-- Eight words of 32 bits.
+pub record Words (l : List ℕ) : Type 0 where
+  pub eight : length l ≡ 8
+  pub small : (i : ℕ) → getD l i 0 < 2 ^ 32
 
 -- The 64 bits of two halves.
 abbrev pub joined : ℕ → ℕ → ℕ
@@ -29,6 +34,23 @@ clockOf words = record {
   ahead = signed (joined (getD words 4 0) (getD words 5 0));
 }
 
+-- Two words are spare: no access reads or changes them.
+unfoldable pub spareOf : List ℕ → List ℕ
+spareOf words = getD words 6 0 ∷ getD words 7 0 ∷ []
+
+unfoldable pub spareIsZero : List ℕ → Bool
+spareIsZero words = eqb (getD words 6 0) 0 && eqb (getD words 7 0) 0
+
+-- `init` promises: a fresh clock, and spare words that are 0.
+pub record Inits (words : List ℕ) : Type 0 where
+  pub clock : clockOf words ≡ fresh
+  pub spare : spareIsZero words ≡ true
+
+-- ---- Answers: 0 to an access that was valid, this to one that was refused. Every other bit is 0.
+
+abbrev pub refusal : ℕ
+refusal = 0x1_0000
+
 -- ---- A read
 
 -- The caller's bytes afterwards.
@@ -36,18 +58,14 @@ abbrev pub bytesAfter : Reply → List ℕ → List ℕ
 bytesAfter (says v) bytes = bytesOf 4 v
 bytesAfter refused bytes = bytes
 
-abbrev pub readValid : Reply → Bool
-readValid (says v) = true
-readValid refused = false
+abbrev pub readAnswer : Reply → ℕ
+readAnswer (says v) = 0
+readAnswer refused = refusal
 
-pub record Reads (reply : Reply) (before after : List ℕ) (valid : Bool) : Type 0 where
+-- `read` promises: the caller's bytes, and the answer.
+pub record Reads (reply : Reply) (before after : List ℕ) (r : ℕ) : Type 0 where
   pub bytes : after ≡ bytesAfter reply before
-  pub validity : valid ≡ readValid reply
-
--- The part of it that is the same for every value.
-pub record Answered (value : ℕ) (after : List ℕ) (valid : Bool) : Type 0 where
-  pub bytes : after ≡ bytesOf 4 value
-  pub validity : valid ≡ true
+  pub answer : r ≡ readAnswer reply
 
 -- ---- A write
 
@@ -56,10 +74,12 @@ abbrev pub clockAfter : Change → Clock → Clock
 clockAfter (becomes c′) c = c′
 clockAfter ignored c = c
 
-abbrev pub writeValid : Change → Bool
-writeValid (becomes c′) = true
-writeValid ignored = false
+abbrev pub writeAnswer : Change → ℕ
+writeAnswer (becomes c′) = 0
+writeAnswer ignored = refusal
 
-pub record Writes (change : Change) (before after : List ℕ) (valid : Bool) : Type 0 where
+-- `write` promises: the clock, the spare words as they were, and the answer.
+pub record Writes (change : Change) (before after : List ℕ) (r : ℕ) : Type 0 where
   pub clock : clockOf after ≡ clockAfter change (clockOf before)
-  pub validity : valid ≡ writeValid change
+  pub spare : spareOf after ≡ spareOf before
+  pub answer : r ≡ writeAnswer change
