@@ -1,43 +1,139 @@
 /*
  * Serialpost: a 16550 serial port, a PL031 clock, and the corner of an i8042 that resets the machine.
- * Link libserialpost.a. The functions declared here are the proved ones themselves, with nothing in between.
+ * Link libserialpost.a. Each call hands your struct to a proved function (serialpost_raw.h) and takes its answer
+ * apart. It is inlined.
  *
- * A device's state is memory that you own. No call allocates, waits, does I/O or keeps anything elsewhere, and
+ * A device's state is a struct that you own. No call allocates, waits, does I/O or keeps anything elsewhere, and
  * none needs another before it: any bytes are some state, any argument is answered. A call that refuses says so
  * in its answer and changes nothing. What a call wants done (a byte sent, an interrupt raised, a reset) is in
- * its answer, and you do it.
+ * its answer, and you do it before the next access.
+ *
+ * A raise is a pulse on the interrupt line, as an edge-triggered input takes it: signal the line's event once for
+ * each. Nothing lowers the line. A guest learns from the device's registers what it was for.
+ *
+ * Spare bytes and words are 0 in a fresh device. Every call keeps them as they are: leave them alone.
  *
  * C cannot check these, so they are yours to keep:
- * - a pointer is not null, not even where the length beside it is 0; it is aligned for its type, and points to as
- *   many elements as are shown here;
+ * - a pointer is not null, not even where the length beside it is 0, and is aligned for its type;
  * - an array with a length beside it has that many elements; a length has 64 bits on every processor;
- * - what one call is lent does not overlap: the state's parts and each array lie apart;
+ * - what one call is lent does not overlap: two structs, or a struct and an array, lie apart;
  * - nothing else touches what a call is lent while it runs. Two states may be used at the same time.
  */
 #ifndef SERIALPOST_H
 #define SERIALPOST_H
 
-#include <stdbool.h>
-#include <stddef.h>
-#include <stdint.h>
+#include "serialpost_raw.h"
 
-#ifdef __cplusplus
-extern "C" {
-#endif
+/* The version of all that is declared here: it changes with the calls, the structs and the answers. Where the library
+ * that you have linked answers another number, make no other call. */
+#define SERIALPOST_VERSION 1
 
-/* ---- Why a form is refused: where several of these are true, docs/STATE-FORMAT.md says which is answered. */
+static inline uint32_t serialpost_version(void)
+{
+    return serialpost_raw_version();
+}
 
-enum serialpost_reason {
-    SERIALPOST_TOO_SHORT = 0x10001, /* the form ends too early */
-    SERIALPOST_TRAILING = 0x10002,  /* bytes follow it */
-    SERIALPOST_VERSION = 0x10003,   /* its version is not known */
-    SERIALPOST_TOO_MANY = 0x10004,  /* more bytes wait than a port has room for */
-    SERIALPOST_OFFSET = 0x10005     /* a clock is 2^32 seconds or more ahead, or more than 2^32 behind */
+/* ---- Answers. `raises` is how often to raise the interrupt. Today a read and the clock raise nothing. */
+
+/* Of a read at the serial port. */
+struct serialpost_read {
+    uint8_t reply;
+    uint32_t raises;
 };
+
+/* Of a write. If `sends`, send `byte`, and raise after that. */
+struct serialpost_written {
+    bool sends;
+    uint8_t byte;
+    uint32_t raises;
+};
+
+/* Of bytes from your side. */
+struct serialpost_input {
+    uint32_t taken;
+    bool full;
+    uint32_t raises;
+};
+
+/* Of a read or a write at the clock. */
+struct serialpost_clock_access {
+    bool refused;
+    uint32_t raises;
+};
+
+/* Of a restore. `reachable`: a run from a fresh device could have come to this state. */
+struct serialpost_restored {
+    bool refused;
+    bool reachable;
+    uint32_t raises;
+};
+
+/* Why a form is refused. Where several of these are true, docs/STATE-FORMAT.md says which is answered. */
+enum serialpost_reason {
+    SERIALPOST_NOT_REFUSED = 0,
+    SERIALPOST_TOO_SHORT = 0x10001,       /* the form ends too early */
+    SERIALPOST_TRAILING = 0x10002,        /* bytes follow it */
+    SERIALPOST_UNKNOWN_VERSION = 0x10003, /* its version is not known */
+    SERIALPOST_TOO_MANY = 0x10004,        /* more bytes wait than a port has room for */
+    SERIALPOST_OFFSET = 0x10005,          /* a clock is 2^32 seconds or more ahead, or more than 2^32 behind */
+    SERIALPOST_SPARE = 0x10006            /* a spare byte or word is not 0, so there is no form */
+};
+
+/* Of the writing of a form. `length`: how many bytes it has, 0 where it is refused. */
+struct serialpost_encoded {
+    uint32_t length;
+    enum serialpost_reason reason;
+};
+
+/* The words of serialpost_raw.h as these answers. The first three are for a run that you play. */
+
+static inline struct serialpost_read serialpost_read_of(uint32_t word)
+{
+    struct serialpost_read answer = { (uint8_t)word, word / SERIALPOST_WORD_RAISE };
+    return answer;
+}
+
+static inline struct serialpost_written serialpost_written_of(uint32_t word)
+{
+    struct serialpost_written answer = { (word & SERIALPOST_WORD_SENDS) != 0, (uint8_t)word, word / SERIALPOST_WORD_RAISE };
+    return answer;
+}
+
+static inline struct serialpost_input serialpost_input_of(uint32_t word)
+{
+    struct serialpost_input answer = { word & SERIALPOST_WORD_NUMBER, (word & SERIALPOST_WORD_REFUSED) != 0,
+                                       word / SERIALPOST_WORD_RAISE };
+    return answer;
+}
+
+static inline struct serialpost_clock_access serialpost_clock_access_of(uint32_t word)
+{
+    struct serialpost_clock_access answer = { (word & SERIALPOST_WORD_REFUSED) != 0, word / SERIALPOST_WORD_RAISE };
+    return answer;
+}
+
+static inline struct serialpost_restored serialpost_restored_of(uint32_t word)
+{
+    struct serialpost_restored answer = { (word & SERIALPOST_WORD_REFUSED) != 0, (word & SERIALPOST_WORD_REACHABLE) != 0,
+                                          word / SERIALPOST_WORD_RAISE };
+    return answer;
+}
+
+static inline enum serialpost_reason serialpost_reason_of(uint32_t word)
+{
+    return word & SERIALPOST_WORD_REFUSED ? (enum serialpost_reason)word : SERIALPOST_NOT_REFUSED;
+}
+
+static inline struct serialpost_encoded serialpost_encoded_of(uint32_t word)
+{
+    struct serialpost_encoded answer = { word & SERIALPOST_WORD_REFUSED ? 0 : word, serialpost_reason_of(word) };
+    return answer;
+}
 
 /* ---- Serial port: a 16550 with 64 bytes of input. */
 
 #define SERIALPOST_SERIAL_CAPACITY 64
+#define SERIALPOST_SERIAL_PLACES 1024
 
 /* Offsets of the registers. RBR is what offset 0 reads and THR what it writes; while LCR 0x80 is set, offsets 0
  * and 1 are the divisor's two bytes. */
@@ -53,95 +149,120 @@ enum {
     SERIALPOST_SCR = 7
 };
 
-/* pos: where the first waiting byte lies in the ring, counted modulo 64, and how many wait; a number above 64
- * counts as 64. regs: each register at its offset, the divisor's low byte at 0 and its high byte at 8. */
+/* regs: each register at its offset, the divisor's low byte at 0 and its high byte at 8; 9 to 15 are spare.
+ * pos: where the first waiting byte lies in the ring, counted modulo 1024, and how many wait; a number above 64
+ * counts as 64. The last two are spare. */
 struct serialpost_serial {
-    uint32_t pos[2];
-    uint8_t regs[9];
-    uint8_t ring[SERIALPOST_SERIAL_CAPACITY];
-};
-
-/* The three parts of a port, as the calls take them: serialpost_serial_read(SERIALPOST_PARTS(&port), offset). */
-#define SERIALPOST_PARTS(port) (port)->regs, (port)->pos, (port)->ring
-
-/* A port written down, to be kept or sent elsewhere: its registers, how many bytes wait, and these in their order. */
-struct serialpost_serial_saved {
-    uint32_t count;
-    uint8_t regs[9];
-    uint8_t waiting[SERIALPOST_SERIAL_CAPACITY];
+    uint8_t regs[16];
+    uint32_t pos[4];
+    uint8_t ring[SERIALPOST_SERIAL_PLACES];
 };
 
 /* Makes a fresh port of any memory. The ring may hold anything. Refuses nothing. */
-void serialpost_serial_init(uint8_t regs[9], uint32_t pos[2]);
+static inline void serialpost_serial_init(struct serialpost_serial *port)
+{
+    serialpost_raw_serial_init(port->regs, port->pos);
+}
 
-/* The guest reads at `offset`. Answers the reply, and how often to raise the interrupt: today no read raises it.
- * An offset that has no register, 8 and up, is refused: the reply is 0. */
-uint32_t serialpost_serial_read(uint8_t regs[9], uint32_t pos[2], const uint8_t ring[64], uint8_t offset);
+/* The guest reads at `offset`. An offset that has no register, 8 and up, is refused: the reply is 0. */
+static inline struct serialpost_read serialpost_serial_read(struct serialpost_serial *port, uint8_t offset)
+{
+    return serialpost_read_of(serialpost_raw_serial_read(port->regs, port->pos, port->ring, offset));
+}
 
-/* The guest writes `value` at `offset`. Answers the byte to send, if any, and how often to raise the interrupt.
- * Send first. An offset that has nothing to write, 2, 5, 6, 8 and up, is refused, and so is a byte for the ring
- * in loopback while 64 wait: the answer is 0. */
-uint32_t serialpost_serial_write(uint8_t regs[9], uint32_t pos[2], uint8_t ring[64], uint8_t offset, uint8_t value);
+/* The guest writes `value` at `offset`. An offset that has nothing to write, 2, 5, 6, 8 and up, is refused, and so is
+ * a byte for the ring in loopback while 64 wait: nothing is sent or raised. */
+static inline struct serialpost_written serialpost_serial_write(struct serialpost_serial *port, uint8_t offset, uint8_t value)
+{
+    return serialpost_written_of(serialpost_raw_serial_write(port->regs, port->pos, port->ring, offset, value));
+}
 
-/* `length` bytes come from your side of the line. Answers how many of them, from the first on, are taken; whether
- * the port is full; and how often to raise the interrupt. Refused: any bytes while 64 wait, which answers "full",
- * and any bytes in loopback, which answers 0. Offer what was not taken again. */
-uint32_t serialpost_serial_input(uint8_t regs[9], uint32_t pos[2], uint8_t ring[64], const uint8_t *input, uint64_t length);
+/* `length` bytes come from your side of the line. As many as there is room for are taken, from the first on. Refused:
+ * any bytes while 64 wait, which answers `full`, and any bytes in loopback, which answers that none are taken.
+ * Keep what is not taken. Offer it again once the guest has read at SERIALPOST_RBR, which makes room, or has written
+ * SERIALPOST_MCR, which ends a loopback: no raise tells you. */
+static inline struct serialpost_input serialpost_serial_input(struct serialpost_serial *port, const uint8_t *input,
+                                                              uint64_t length)
+{
+    return serialpost_input_of(serialpost_raw_serial_input(port->regs, port->pos, port->ring, input, length));
+}
 
-/* Answers how many bytes an input could put into the ring: 0 to 64. Refuses nothing. */
-uint32_t serialpost_serial_room(const uint32_t pos[2]);
+/* Answers how many more bytes can wait: 0 to 64. Refuses nothing. */
+static inline uint32_t serialpost_serial_room(const struct serialpost_serial *port)
+{
+    return serialpost_raw_serial_room(port->pos);
+}
 
 /* A whole run in one call: `ops` has three bytes for each operation, its kind first.
  *   0 offset any      a read
  *   1 offset value    a write
  *   2 low high        an input of low + 256 * high bytes; those of all inputs lie in `inputs` one behind another
  *   3 any any         the room
- * Answers true and puts into `answers` the answer of each. Refused, with false: what is no such run (another kind, an
- * operation cut short, bytes of the inputs missing or left over), and a run with more operations than answers. */
-bool serialpost_serial_play(uint8_t regs[9], uint32_t pos[2], uint8_t ring[64], const uint8_t *ops, uint64_t ops_length,
-                            const uint8_t *inputs, uint64_t inputs_length, uint32_t *answers, uint64_t answers_length);
+ * Answers true and puts a word into `answers` for each: serialpost_read_of, _written_of and _input_of take it apart;
+ * the room is the word itself. Refused, with false: what is no such run (another kind, an operation cut short, bytes
+ * of the inputs missing or left over), and a run with more operations than answers. */
+static inline bool serialpost_serial_play(struct serialpost_serial *port, const uint8_t *ops, uint64_t ops_length,
+                                          const uint8_t *inputs, uint64_t inputs_length, uint32_t *answers,
+                                          uint64_t answers_length)
+{
+    return serialpost_raw_serial_play(port->regs, port->pos, port->ring, ops, ops_length, inputs, inputs_length, answers,
+                                      answers_length);
+}
 
-/* Writes a port down: its registers into `saved`, and the bytes that wait, in their order, into the first of
- * `waiting`, whose others stay. Answers how many wait, 0 to 64. Refuses nothing, and the port stays. */
-uint32_t serialpost_serial_save(const uint8_t regs[9], const uint32_t pos[2], const uint8_t ring[64], uint8_t saved[9],
-                                uint8_t waiting[64]);
+/* ---- A serial port saved, to be kept or sent elsewhere: its registers, the bytes that wait, in their order, and how
+ * many these are. hosts/c/migrate.c moves a port from one host to another. */
 
-/* Brings a port back into any memory. Answers how often to raise the interrupt, once for each kind that is enabled
- * and marked, since the line of a new host may never have seen it; and whether a run from a fresh port could have
- * come to this state. One that no run comes to is brought back all the same: whether to go on is yours to say. It may
- * have been written down by vm-superio before 0.8.2, which comes to such states, or by a port that was brought back so.
- * Refused: more than 64 bytes. */
-uint32_t serialpost_serial_restore(uint8_t regs[9], uint32_t pos[2], uint8_t ring[64], const uint8_t saved[9],
-                                   const uint8_t *waiting, uint64_t length);
+struct serialpost_serial_saved {
+    uint8_t regs[16];
+    uint8_t waiting[SERIALPOST_SERIAL_PLACES];
+    uint32_t count;
+};
 
-/* The form of a written-down port has so many bytes at most. */
+/* Saves a port. Of `waiting` only the first bytes are written. Refuses nothing, and the port stays. */
+static inline void serialpost_serial_save(const struct serialpost_serial *port, struct serialpost_serial_saved *saved)
+{
+    saved->count = serialpost_raw_serial_save(port->regs, port->pos, port->ring, saved->regs, saved->waiting);
+}
+
+/* How many of the bytes that are said to wait lie in the struct: any number above 64 is refused alike. */
+static inline uint64_t serialpost_serial_lent(const struct serialpost_serial_saved *saved)
+{
+    return saved->count < SERIALPOST_SERIAL_PLACES ? saved->count : SERIALPOST_SERIAL_PLACES;
+}
+
+/* Restores a port into any memory; its spare positions stay, so make new memory a fresh port before. Raises once for
+ * each kind that is enabled and marked, since the line of a new host may never have seen it. A state that is not
+ * reachable is restored all the same, and whether to go on is yours to say: vm-superio before 0.8.2 comes to such
+ * states, and so does a port that was restored from one. Refused: more than 64 bytes. */
+static inline struct serialpost_restored serialpost_serial_restore(struct serialpost_serial *port,
+                                                                   const struct serialpost_serial_saved *saved)
+{
+    return serialpost_restored_of(serialpost_raw_serial_restore(port->regs, port->pos, port->ring, saved->regs,
+                                                                saved->waiting, serialpost_serial_lent(saved)));
+}
+
+/* The form of a saved port has so many bytes at most. */
 #define SERIALPOST_SERIAL_FORM_MOST 77
 
-/* Puts a written-down port into bytes, in the form that docs/STATE-FORMAT.md tells. Answers how many bytes the form
- * has, 13 and one for each that waits, and writes it into the first bytes of `form`, whose others stay. Where `form`
- * is shorter nothing is written, and the answer is the same. Refused: more than 64 waiting bytes. */
-uint32_t serialpost_serial_encode(const uint8_t saved[9], const uint8_t *waiting, uint64_t waiting_length, uint8_t *form,
-                                  uint64_t form_length);
+/* Puts a saved port into bytes, in the form that docs/STATE-FORMAT.md tells: 13 and one for each that waits. Writes
+ * the first bytes of `form`, and the others stay. Where `form` is shorter nothing is written, and the answer is the
+ * same. Refused: more than 64 waiting bytes, and a spare byte that is not 0. */
+static inline struct serialpost_encoded serialpost_serial_encode(const struct serialpost_serial_saved *saved, uint8_t *form,
+                                                                 uint64_t length)
+{
+    return serialpost_encoded_of(
+        serialpost_raw_serial_encode(saved->regs, saved->waiting, serialpost_serial_lent(saved), form, length));
+}
 
-/* Reads a form. Answers how many bytes wait, and puts the registers into `saved` and these bytes into the first of
- * `waiting`, whose others stay. Bytes that are no form are refused with a reason, and `saved` and `waiting` stay. */
-uint32_t serialpost_serial_decode(const uint8_t *form, uint64_t length, uint8_t saved[9], uint8_t waiting[64]);
-
-/* The answer to a read or a write, taken apart. */
-#define SERIALPOST_REPLY(answer) ((uint8_t)((answer) & 0xff))
-#define SERIALPOST_SENDS(answer) (((answer) & 0x100) != 0)
-#define SERIALPOST_BYTE(answer) ((uint8_t)((answer) & 0xff))
-#define SERIALPOST_RAISES(answer) ((uint32_t)(answer) >> 9)
-
-/* The answer to an input, taken apart. */
-#define SERIALPOST_TAKEN(answer) ((size_t)((answer) & 0xffff))
-#define SERIALPOST_FULL(answer) (((answer) & 0x10000) != 0)
-#define SERIALPOST_INPUT_RAISES(answer) ((uint32_t)(answer) >> 17)
-
-/* The answer to bringing a port back, taken apart. The first is also for what answers a number or a reason. */
-#define SERIALPOST_REFUSED(answer) (((answer) & 0x10000) != 0)
-#define SERIALPOST_RESTORE_RAISES(answer) ((uint32_t)(answer) >> 17)
-#define SERIALPOST_REACHED(answer) (((answer) & 1) != 0)
+/* Reads a form, of which `length` bytes are all. Where they are no form, answers why, and `saved` stays. */
+static inline enum serialpost_reason serialpost_serial_decode(const uint8_t *form, uint64_t length,
+                                                              struct serialpost_serial_saved *saved)
+{
+    uint32_t word = serialpost_raw_serial_decode(form, length, saved->regs, saved->waiting);
+    if (!(word & SERIALPOST_WORD_REFUSED))
+        saved->count = word;
+    return serialpost_reason_of(word);
+}
 
 /* ---- Clock: a PL031. Registers are four bytes, the lowest first. */
 
@@ -165,49 +286,76 @@ struct serialpost_clock {
     uint32_t raw_status;
     uint32_t offset_low;
     uint32_t offset_high;
+    uint32_t spare[2];
 };
 
 /* Makes a fresh clock of any memory. Refuses nothing. */
-void serialpost_clock_init(struct serialpost_clock *clock);
+static inline void serialpost_clock_init(struct serialpost_clock *clock)
+{
+    serialpost_raw_clock_init(clock);
+}
 
-/* The guest reads the register at `offset` while your clock says `time` seconds, which count modulo 2^32. Answers
- * true and puts the value into `bytes`. An offset with no register to read is refused: false, and `bytes` stay. */
-bool serialpost_clock_read(const struct serialpost_clock *clock, uint16_t offset, uint64_t time, uint8_t bytes[4]);
+/* The guest reads the register at `offset` while your clock says `time` seconds, which count modulo 2^32. Puts the
+ * value into `bytes`. An offset with no register to read is refused, and `bytes` stay. */
+static inline struct serialpost_clock_access serialpost_clock_read(const struct serialpost_clock *clock, uint16_t offset,
+                                                                   uint64_t time, uint8_t bytes[4])
+{
+    return serialpost_clock_access_of(serialpost_raw_clock_read(clock, offset, time, bytes));
+}
 
-/* The guest writes `bytes` to the register at `offset` while your clock says `time` seconds. Answers true. An
- * offset with no register to write is refused: false, and the clock stays. */
-bool serialpost_clock_write(struct serialpost_clock *clock, uint16_t offset, uint64_t time, const uint8_t bytes[4]);
+/* The guest writes `bytes` to the register at `offset` while your clock says `time` seconds. An offset with no
+ * register to write is refused. */
+static inline struct serialpost_clock_access serialpost_clock_write(struct serialpost_clock *clock, uint16_t offset,
+                                                                    uint64_t time, const uint8_t bytes[4])
+{
+    return serialpost_clock_access_of(serialpost_raw_clock_write(clock, offset, time, bytes));
+}
 
-/* Writes a clock down into `saved`. Refuses nothing, and the clock stays. */
-void serialpost_clock_save(const struct serialpost_clock *clock, struct serialpost_clock *saved);
+/* Saves a clock. Refuses nothing, and the clock stays. */
+static inline void serialpost_clock_save(const struct serialpost_clock *clock, struct serialpost_clock *saved)
+{
+    serialpost_raw_clock_save(clock, saved);
+}
 
-/* Brings a clock back into any memory. Answers whether a run from a fresh clock could have come to this state. One
- * that no run comes to is brought back all the same. Refuses nothing. */
-bool serialpost_clock_restore(struct serialpost_clock *clock, const struct serialpost_clock *saved);
+/* Restores a clock into any memory, also one whose state is not reachable. Refuses nothing. */
+static inline struct serialpost_restored serialpost_clock_restore(struct serialpost_clock *clock,
+                                                                  const struct serialpost_clock *saved)
+{
+    return serialpost_restored_of(serialpost_raw_clock_restore(clock, saved));
+}
 
-/* The form of a written-down clock has so many bytes. */
+/* The form of a saved clock has so many bytes. */
 #define SERIALPOST_CLOCK_FORM_SIZE 26
 
-/* Puts a written-down clock into bytes, in the form that docs/STATE-FORMAT.md tells. Answers 26, as many bytes as the
- * form has, and writes it into the first of `form`, whose others stay. Where `form` is shorter nothing is written, and
- * the answer is the same. Refused, with the reason: an offset outside -2^32 <= offset < 2^32. */
-uint32_t serialpost_clock_encode(const struct serialpost_clock *saved, uint8_t *form, uint64_t length);
+/* Puts a saved clock into bytes, in the form that docs/STATE-FORMAT.md tells. Writes the first bytes of `form`, and
+ * the others stay. Where `form` is shorter nothing is written, and the answer is the same. Refused: an offset outside
+ * -2^32 <= offset < 2^32, and a spare word that is not 0. */
+static inline struct serialpost_encoded serialpost_clock_encode(const struct serialpost_clock *saved, uint8_t *form,
+                                                                uint64_t length)
+{
+    return serialpost_encoded_of(serialpost_raw_clock_encode(saved, form, length));
+}
 
-/* Reads a form. Answers 0 and puts the clock into `saved`. Bytes that are no form are refused with a reason, and
- * `saved` stays. */
-uint32_t serialpost_clock_decode(const uint8_t *form, uint64_t length, struct serialpost_clock *saved);
+/* Reads a form, of which `length` bytes are all. Where they are no form, answers why, and `saved` stays. */
+static inline enum serialpost_reason serialpost_clock_decode(const uint8_t *form, uint64_t length,
+                                                             struct serialpost_clock *saved)
+{
+    return serialpost_reason_of(serialpost_raw_clock_decode(form, length, saved));
+}
 
 /* ---- Reset controller: of an i8042, the command that resets the machine. It has no state. */
 
 /* The guest reads at `offset`, counted from port 0x60. Answers 0. Refuses nothing. */
-uint8_t serialpost_i8042_read(uint8_t offset);
+static inline uint8_t serialpost_i8042_read(uint8_t offset)
+{
+    return serialpost_raw_i8042_read(offset);
+}
 
 /* The guest writes `value` at `offset`. Answers whether the machine is to be reset. Any other write than 0xfe at
  * offset 4 is refused: false. */
-bool serialpost_i8042_write(uint8_t offset, uint8_t value);
-
-#ifdef __cplusplus
+static inline bool serialpost_i8042_write(uint8_t offset, uint8_t value)
+{
+    return serialpost_raw_i8042_write(offset, value);
 }
-#endif
 
 #endif

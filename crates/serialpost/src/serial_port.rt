@@ -10,14 +10,14 @@ ghost use Rattle.serial_form.specs.Form.{readForm};
 ghost use Rattle.serial_form.specs.Calls.{Encodes, Decodes};
 
 #[no_mangle]
-pub extern "C" fn serialpost_serial_init(regs: &mut Regs, pos: &mut Pos)
+pub extern "C" fn serialpost_raw_serial_init(regs: &mut Regs, pos: &mut Pos)
     ensures { λ r. ⌜ MakesFresh (now (regs .exit)) (now (pos .exit)) ⌝ }
 {
     serial::init(regs, pos);
 }
 
 #[no_mangle]
-pub extern "C" fn serialpost_serial_read(
+pub extern "C" fn serialpost_raw_serial_read(
     regs: &mut Regs,
     pos: &mut Pos,
     ring: &Ring,
@@ -29,7 +29,7 @@ pub extern "C" fn serialpost_serial_read(
 }
 
 #[no_mangle]
-pub extern "C" fn serialpost_serial_write(
+pub extern "C" fn serialpost_raw_serial_write(
     regs: &mut Regs,
     pos: &mut Pos,
     ring: &mut Ring,
@@ -42,7 +42,7 @@ pub extern "C" fn serialpost_serial_write(
 }
 
 #[no_mangle]
-pub extern "C" fn serialpost_serial_input(
+pub extern "C" fn serialpost_raw_serial_input(
     regs: &mut Regs,
     pos: &mut Pos,
     ring: &mut Ring,
@@ -54,14 +54,14 @@ pub extern "C" fn serialpost_serial_input(
 }
 
 #[no_mangle]
-pub extern "C" fn serialpost_serial_room(pos: &Pos) -> u32
+pub extern "C" fn serialpost_raw_serial_room(pos: &Pos) -> u32
     ensures { λ r. ⌜ HasRoom (now (pos .entry)) r ⌝ }
 {
     serial::room(pos)
 }
 
 #[no_mangle]
-pub extern "C" fn serialpost_serial_play(
+pub extern "C" fn serialpost_raw_serial_play(
     regs: &mut Regs,
     pos: &mut Pos,
     ring: &mut Ring,
@@ -75,7 +75,7 @@ pub extern "C" fn serialpost_serial_play(
 }
 
 #[no_mangle]
-pub extern "C" fn serialpost_serial_save(
+pub extern "C" fn serialpost_raw_serial_save(
     regs: &Regs,
     pos: &Pos,
     ring: &Ring,
@@ -88,7 +88,7 @@ pub extern "C" fn serialpost_serial_save(
 }
 
 #[no_mangle]
-pub extern "C" fn serialpost_serial_restore(
+pub extern "C" fn serialpost_raw_serial_restore(
     regs: &mut Regs,
     pos: &mut Pos,
     ring: &mut Ring,
@@ -101,14 +101,14 @@ pub extern "C" fn serialpost_serial_restore(
 }
 
 #[no_mangle]
-pub extern "C" fn serialpost_serial_encode(saved: &Regs, waiting: &[u8], form: &mut [u8]) -> u32
+pub extern "C" fn serialpost_raw_serial_encode(saved: &Regs, waiting: &[u8], form: &mut [u8]) -> u32
     ensures { λ r. ⌜ Encodes (now (saved .entry)) (now (waiting .entry)) (now (form .entry)) (now (form .exit)) r ⌝ }
 {
     serial_form::encode(saved, waiting, form)
 }
 
 #[no_mangle]
-pub extern "C" fn serialpost_serial_decode(form: &[u8], saved: &mut Regs, waiting: &mut Ring) -> u32
+pub extern "C" fn serialpost_raw_serial_decode(form: &[u8], saved: &mut Regs, waiting: &mut Ring) -> u32
     ensures { λ r. ⌜ Decodes (readForm (now (form .entry))) (now (saved .entry)) (now (waiting .entry)) (now (saved .exit)) (now (waiting .exit)) r ⌝ }
 {
     serial_form::decode(form, saved, waiting)

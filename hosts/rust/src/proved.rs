@@ -2,112 +2,176 @@
 
 use crate::FormError;
 
+/// How a port and a clock lie in memory: include/serialpost.h says what stands where.
+pub(crate) type Regs = [u8; 16];
+type Pos = [u32; 4];
+type Ring = [u8; 1024];
+pub(crate) type Words = [u32; 8];
+
 // SAFETY: the declarations say what the Rattle sources say (`hosts/agree` compares them), and by its proof each
 // function is total: whatever the arguments, it touches only what it is lent, returns, and needs nothing before
 // it. A reference is never null and always of the right length, and the borrow checker keeps those of one call
 // apart. So a call is `safe` where all arguments are numbers and references.
 unsafe extern "C" {
-    safe fn serialpost_serial_init(regs: &mut [u8; 9], pos: &mut [u32; 2]);
-    safe fn serialpost_serial_read(
-        regs: &mut [u8; 9],
-        pos: &mut [u32; 2],
-        ring: &[u8; 64],
+    #[cfg(test)]
+    safe fn serialpost_raw_version() -> u32;
+
+    safe fn serialpost_raw_serial_init(regs: &mut Regs, pos: &mut Pos);
+    safe fn serialpost_raw_serial_read(
+        regs: &mut Regs,
+        pos: &mut Pos,
+        ring: &Ring,
         offset: u8,
     ) -> u32;
-    safe fn serialpost_serial_write(
-        regs: &mut [u8; 9],
-        pos: &mut [u32; 2],
-        ring: &mut [u8; 64],
+    safe fn serialpost_raw_serial_write(
+        regs: &mut Regs,
+        pos: &mut Pos,
+        ring: &mut Ring,
         offset: u8,
         value: u8,
     ) -> u32;
-    fn serialpost_serial_input(
-        regs: &mut [u8; 9],
-        pos: &mut [u32; 2],
-        ring: &mut [u8; 64],
+    fn serialpost_raw_serial_input(
+        regs: &mut Regs,
+        pos: &mut Pos,
+        ring: &mut Ring,
         input: *const u8,
         length: usize,
     ) -> u32;
-    safe fn serialpost_serial_room(pos: &[u32; 2]) -> u32;
-    safe fn serialpost_serial_save(
-        regs: &[u8; 9],
-        pos: &[u32; 2],
-        ring: &[u8; 64],
-        saved: &mut [u8; 9],
-        waiting: &mut [u8; 64],
+    safe fn serialpost_raw_serial_room(pos: &Pos) -> u32;
+    safe fn serialpost_raw_serial_save(
+        regs: &Regs,
+        pos: &Pos,
+        ring: &Ring,
+        saved: &mut Regs,
+        waiting: &mut Ring,
     ) -> u32;
-    fn serialpost_serial_restore(
-        regs: &mut [u8; 9],
-        pos: &mut [u32; 2],
-        ring: &mut [u8; 64],
-        saved: &[u8; 9],
+    fn serialpost_raw_serial_restore(
+        regs: &mut Regs,
+        pos: &mut Pos,
+        ring: &mut Ring,
+        saved: &Regs,
         waiting: *const u8,
         length: usize,
     ) -> u32;
-    fn serialpost_serial_encode(
-        saved: &[u8; 9],
+    fn serialpost_raw_serial_encode(
+        saved: &Regs,
         waiting: *const u8,
         waiting_length: usize,
         form: *mut u8,
         form_length: usize,
     ) -> u32;
-    fn serialpost_serial_decode(
+    fn serialpost_raw_serial_decode(
         form: *const u8,
         length: usize,
-        saved: &mut [u8; 9],
-        waiting: &mut [u8; 64],
+        saved: &mut Regs,
+        waiting: &mut Ring,
     ) -> u32;
 
-    safe fn serialpost_clock_init(clock: &mut [u32; 6]);
-    safe fn serialpost_clock_read(
-        clock: &[u32; 6],
+    safe fn serialpost_raw_clock_init(clock: &mut Words);
+    safe fn serialpost_raw_clock_read(
+        clock: &Words,
         offset: u16,
         time: u64,
         bytes: &mut [u8; 4],
-    ) -> bool;
-    safe fn serialpost_clock_write(
-        clock: &mut [u32; 6],
+    ) -> u32;
+    safe fn serialpost_raw_clock_write(
+        clock: &mut Words,
         offset: u16,
         time: u64,
         bytes: &[u8; 4],
-    ) -> bool;
-    safe fn serialpost_clock_save(clock: &[u32; 6], saved: &mut [u32; 6]);
-    safe fn serialpost_clock_restore(clock: &mut [u32; 6], saved: &[u32; 6]) -> bool;
-    fn serialpost_clock_encode(saved: &[u32; 6], form: *mut u8, length: usize) -> u32;
-    fn serialpost_clock_decode(form: *const u8, length: usize, saved: &mut [u32; 6]) -> u32;
+    ) -> u32;
+    safe fn serialpost_raw_clock_save(clock: &Words, saved: &mut Words);
+    safe fn serialpost_raw_clock_restore(clock: &mut Words, saved: &Words) -> u32;
+    fn serialpost_raw_clock_encode(saved: &Words, form: *mut u8, length: usize) -> u32;
+    fn serialpost_raw_clock_decode(form: *const u8, length: usize, saved: &mut Words) -> u32;
 
-    pub(crate) safe fn serialpost_i8042_read(offset: u8) -> u8;
-    pub(crate) safe fn serialpost_i8042_write(offset: u8, value: u8) -> bool;
+    pub(crate) safe fn serialpost_raw_i8042_read(offset: u8) -> u8;
+    pub(crate) safe fn serialpost_raw_i8042_write(offset: u8, value: u8) -> bool;
 }
 
-/// The memory of a serial port: where the waiting bytes lie, the registers, and the ring they lie in.
+/// The word that a call answers, taken apart. There is one layout for all calls.
+#[derive(Clone, Copy)]
+pub(crate) struct Answer(u32);
+
+impl Answer {
+    /// How many bytes were taken, saved, or make up a form.
+    #[inline]
+    pub(crate) fn number(self) -> usize {
+        (self.0 & 0xffff) as usize
+    }
+
+    #[inline]
+    pub(crate) fn reply(self) -> u8 {
+        self.0 as u8
+    }
+
+    /// Of an input: the port is full.
+    #[inline]
+    pub(crate) fn refused(self) -> bool {
+        self.0 & 0x1_0000 != 0
+    }
+
+    #[inline]
+    pub(crate) fn sent(self) -> Option<u8> {
+        (self.0 & 0x2_0000 != 0).then_some(self.0 as u8)
+    }
+
+    /// Whether a run from a fresh device could have come to what is restored.
+    pub(crate) fn reachable(self) -> bool {
+        self.0 & 0x4_0000 != 0
+    }
+
+    /// How often to raise the interrupt.
+    #[inline]
+    pub(crate) fn raises(self) -> u32 {
+        self.0 >> 24
+    }
+
+    /// The number, or why there is no form.
+    fn of_form(self) -> Result<usize, FormError> {
+        if !self.refused() {
+            return Ok(self.number());
+        }
+        Err(match self.number() {
+            1 => FormError::TooShort,
+            2 => FormError::TrailingBytes,
+            3 => FormError::Version,
+            4 => FormError::TooManyBytes,
+            5 => FormError::Offset,
+            6 => FormError::Spare,
+            other => unreachable!("{other} is no reason of the library"),
+        })
+    }
+}
+
+/// The memory of a serial port: its registers, where the waiting bytes lie, and the ring they lie in.
 #[derive(Debug)]
 pub(crate) struct Port {
-    pos: [u32; 2],
-    regs: [u8; 9],
-    ring: [u8; 64],
+    regs: Regs,
+    pos: Pos,
+    ring: Ring,
 }
 
 impl Port {
-    /// Memory that is to become a port.
+    /// Memory that is to become a port. What is spare in it is 0.
     const BLANK: Self = Port {
-        pos: [0; 2],
-        regs: [0; 9],
-        ring: [0; 64],
+        regs: [0; 16],
+        pos: [0; 4],
+        ring: [0; 1024],
     };
 
     pub(crate) fn fresh() -> Self {
         let mut port = Self::BLANK;
-        serialpost_serial_init(&mut port.regs, &mut port.pos);
+        serialpost_raw_serial_init(&mut port.regs, &mut port.pos);
         port
     }
 
     /// A port that was written down, and what bringing it back answers. Where that is a refusal there is no such port.
-    pub(crate) fn restored(regs: &[u8; 9], waiting: &[u8]) -> (Self, Restore) {
+    pub(crate) fn restored(regs: &Regs, waiting: &[u8]) -> (Self, Answer) {
         let mut port = Self::BLANK;
         // SAFETY: the pointer and the length are those of one slice, which is borrowed for the call.
         let answer = unsafe {
-            serialpost_serial_restore(
+            serialpost_raw_serial_restore(
                 &mut port.regs,
                 &mut port.pos,
                 &mut port.ring,
@@ -116,20 +180,20 @@ impl Port {
                 waiting.len(),
             )
         };
-        (port, Restore(answer))
+        (port, Answer(answer))
     }
 
     /// The port to be written down: its registers, and the bytes that wait.
-    pub(crate) fn saved(&self) -> ([u8; 9], Vec<u8>) {
-        let (mut regs, mut waiting) = ([0; 9], [0; 64]);
-        let count =
-            serialpost_serial_save(&self.regs, &self.pos, &self.ring, &mut regs, &mut waiting);
-        (regs, waiting[..count as usize].to_vec())
+    pub(crate) fn saved(&self) -> (Regs, Vec<u8>) {
+        let (mut regs, mut waiting) = ([0; 16], [0; 1024]);
+        let answer =
+            serialpost_raw_serial_save(&self.regs, &self.pos, &self.ring, &mut regs, &mut waiting);
+        (regs, waiting[..Answer(answer).number()].to_vec())
     }
 
     #[inline]
-    pub(crate) fn read(&mut self, offset: u8) -> Access {
-        Access(serialpost_serial_read(
+    pub(crate) fn read(&mut self, offset: u8) -> Answer {
+        Answer(serialpost_raw_serial_read(
             &mut self.regs,
             &mut self.pos,
             &self.ring,
@@ -138,8 +202,8 @@ impl Port {
     }
 
     #[inline]
-    pub(crate) fn write(&mut self, offset: u8, value: u8) -> Access {
-        Access(serialpost_serial_write(
+    pub(crate) fn write(&mut self, offset: u8, value: u8) -> Answer {
+        Answer(serialpost_raw_serial_write(
             &mut self.regs,
             &mut self.pos,
             &mut self.ring,
@@ -149,10 +213,10 @@ impl Port {
     }
 
     #[inline]
-    pub(crate) fn input(&mut self, input: &[u8]) -> Input {
+    pub(crate) fn input(&mut self, input: &[u8]) -> Answer {
         // SAFETY: the pointer and the length are those of one slice, which is borrowed for the call.
-        Input(unsafe {
-            serialpost_serial_input(
+        Answer(unsafe {
+            serialpost_raw_serial_input(
                 &mut self.regs,
                 &mut self.pos,
                 &mut self.ring,
@@ -164,105 +228,43 @@ impl Port {
 
     #[inline]
     pub(crate) fn room(&self) -> usize {
-        serialpost_serial_room(&self.pos) as usize
+        Answer(serialpost_raw_serial_room(&self.pos)).number()
     }
 }
 
-/// The answer to an access of the guest.
-#[derive(Clone, Copy)]
-pub(crate) struct Access(u32);
-
-impl Access {
-    #[inline]
-    pub(crate) fn reply(self) -> u8 {
-        self.0 as u8
-    }
-
-    #[inline]
-    pub(crate) fn sent(self) -> Option<u8> {
-        (self.0 & 0x100 != 0).then_some(self.0 as u8)
-    }
-
-    /// How often to raise the interrupt.
-    #[inline]
-    pub(crate) fn raises(self) -> u32 {
-        self.0 >> 9
-    }
-}
-
-/// The answer to bytes from the host.
-#[derive(Clone, Copy)]
-pub(crate) struct Input(u32);
-
-impl Input {
-    #[inline]
-    pub(crate) fn taken(self) -> usize {
-        (self.0 & 0xffff) as usize
-    }
-
-    #[inline]
-    pub(crate) fn full(self) -> bool {
-        self.0 & 0x1_0000 != 0
-    }
-
-    #[inline]
-    pub(crate) fn raises(self) -> u32 {
-        self.0 >> 17
-    }
-}
-
-/// The answer to bringing a port back.
-#[derive(Clone, Copy)]
-pub(crate) struct Restore(u32);
-
-impl Restore {
-    pub(crate) fn refused(self) -> bool {
-        self.0 & 0x1_0000 != 0
-    }
-
-    pub(crate) fn raises(self) -> u32 {
-        self.0 >> 17
-    }
-
-    /// Whether a run from a fresh port could have come to it.
-    pub(crate) fn reached(self) -> bool {
-        self.0 & 1 != 0
-    }
-}
-
-/// The memory of a clock: load, match, mask, raw status, and the offset's low and high half.
+/// The memory of a clock: load, match, mask, raw status, the offset's low and high half, and two spare words.
 #[derive(Debug)]
-pub(crate) struct Clock([u32; 6]);
+pub(crate) struct Clock(Words);
 
 impl Clock {
     pub(crate) fn fresh() -> Self {
-        let mut clock = Clock([0; 6]);
-        serialpost_clock_init(&mut clock.0);
+        let mut clock = Clock([0; 8]);
+        serialpost_raw_clock_init(&mut clock.0);
         clock
     }
 
-    /// A clock that was written down, and whether a run from a fresh one could have come to it.
-    pub(crate) fn restored(saved: &[u32; 6]) -> (Self, bool) {
-        let mut clock = Clock([0; 6]);
-        let reached = serialpost_clock_restore(&mut clock.0, saved);
-        (clock, reached)
+    /// A clock that was written down, and what bringing it back answers.
+    pub(crate) fn restored(saved: &Words) -> (Self, Answer) {
+        let mut clock = Clock([0; 8]);
+        let answer = serialpost_raw_clock_restore(&mut clock.0, saved);
+        (clock, Answer(answer))
     }
 
     /// The clock to be written down.
-    pub(crate) fn saved(&self) -> [u32; 6] {
-        let mut saved = [0; 6];
-        serialpost_clock_save(&self.0, &mut saved);
+    pub(crate) fn saved(&self) -> Words {
+        let mut saved = [0; 8];
+        serialpost_raw_clock_save(&self.0, &mut saved);
         saved
     }
 
     #[inline]
-    pub(crate) fn read(&self, offset: u16, time: u64, bytes: &mut [u8; 4]) -> bool {
-        serialpost_clock_read(&self.0, offset, time, bytes)
+    pub(crate) fn read(&self, offset: u16, time: u64, bytes: &mut [u8; 4]) -> Answer {
+        Answer(serialpost_raw_clock_read(&self.0, offset, time, bytes))
     }
 
     #[inline]
-    pub(crate) fn write(&mut self, offset: u16, time: u64, bytes: &[u8; 4]) -> bool {
-        serialpost_clock_write(&mut self.0, offset, time, bytes)
+    pub(crate) fn write(&mut self, offset: u16, time: u64, bytes: &[u8; 4]) -> Answer {
+        Answer(serialpost_raw_clock_write(&mut self.0, offset, time, bytes))
     }
 }
 
@@ -270,28 +272,13 @@ impl Clock {
 const SERIAL_FORM_MOST: usize = 77;
 const CLOCK_FORM_SIZE: usize = 26;
 
-/// The answer to reading or writing a form: a number, or why there is none.
-fn form_answer(answer: u32) -> Result<usize, FormError> {
-    if answer & 0x1_0000 == 0 {
-        return Ok(answer as usize);
-    }
-    Err(match answer {
-        0x1_0001 => FormError::TooShort,
-        0x1_0002 => FormError::TrailingBytes,
-        0x1_0003 => FormError::Version,
-        0x1_0004 => FormError::TooManyBytes,
-        0x1_0005 => FormError::Offset,
-        other => unreachable!("{other:#x} is no reason of the library"),
-    })
-}
-
 /// The form of a port that was written down.
-pub(crate) fn port_to_bytes(regs: &[u8; 9], waiting: &[u8]) -> Result<Vec<u8>, FormError> {
+pub(crate) fn port_to_bytes(regs: &Regs, waiting: &[u8]) -> Result<Vec<u8>, FormError> {
     let mut form = [0; SERIAL_FORM_MOST];
     // SAFETY: each pointer and the length behind it are those of one slice, which is borrowed for the call, and the
     // two lie apart.
     let answer = unsafe {
-        serialpost_serial_encode(
+        serialpost_raw_serial_encode(
             regs,
             waiting.as_ptr(),
             waiting.len(),
@@ -299,30 +286,57 @@ pub(crate) fn port_to_bytes(regs: &[u8; 9], waiting: &[u8]) -> Result<Vec<u8>, F
             form.len(),
         )
     };
-    Ok(form[..form_answer(answer)?].to_vec())
+    Ok(form[..Answer(answer).of_form()?].to_vec())
 }
 
 /// The port that a form is of: its registers, and the bytes that wait.
-pub(crate) fn port_from_bytes(form: &[u8]) -> Result<([u8; 9], Vec<u8>), FormError> {
-    let (mut regs, mut waiting) = ([0; 9], [0; 64]);
+pub(crate) fn port_from_bytes(form: &[u8]) -> Result<(Regs, Vec<u8>), FormError> {
+    let (mut regs, mut waiting) = ([0; 16], [0; 1024]);
     // SAFETY: the pointer and the length are those of one slice, which is borrowed for the call.
     let answer =
-        unsafe { serialpost_serial_decode(form.as_ptr(), form.len(), &mut regs, &mut waiting) };
-    Ok((regs, waiting[..form_answer(answer)?].to_vec()))
+        unsafe { serialpost_raw_serial_decode(form.as_ptr(), form.len(), &mut regs, &mut waiting) };
+    Ok((regs, waiting[..Answer(answer).of_form()?].to_vec()))
 }
 
 /// The form of a clock that was written down.
-pub(crate) fn clock_to_bytes(saved: &[u32; 6]) -> Result<Vec<u8>, FormError> {
+pub(crate) fn clock_to_bytes(saved: &Words) -> Result<Vec<u8>, FormError> {
     let mut form = [0; CLOCK_FORM_SIZE];
     // SAFETY: the pointer and the length are those of one slice, which is borrowed for the call.
-    let answer = unsafe { serialpost_clock_encode(saved, form.as_mut_ptr(), form.len()) };
-    Ok(form[..form_answer(answer)?].to_vec())
+    let answer = unsafe { serialpost_raw_clock_encode(saved, form.as_mut_ptr(), form.len()) };
+    Ok(form[..Answer(answer).of_form()?].to_vec())
 }
 
 /// The clock that a form is of.
-pub(crate) fn clock_from_bytes(form: &[u8]) -> Result<[u32; 6], FormError> {
-    let mut saved = [0; 6];
+pub(crate) fn clock_from_bytes(form: &[u8]) -> Result<Words, FormError> {
+    let mut saved = [0; 8];
     // SAFETY: the pointer and the length are those of one slice, which is borrowed for the call.
-    let answer = unsafe { serialpost_clock_decode(form.as_ptr(), form.len(), &mut saved) };
-    form_answer(answer).map(|_| saved)
+    let answer = unsafe { serialpost_raw_clock_decode(form.as_ptr(), form.len(), &mut saved) };
+    Answer(answer).of_form().map(|_| saved)
+}
+
+#[cfg(test)]
+mod tests {
+    use super::*;
+
+    /// The interface that this crate is written for.
+    const VERSION: u32 = 1;
+
+    #[test]
+    fn the_library_has_the_interface_that_is_declared_here() {
+        assert_eq!(serialpost_raw_version(), VERSION);
+        let header = include_str!("../../../include/serialpost.h");
+        assert!(header.contains(&format!("#define SERIALPOST_VERSION {VERSION}\n")));
+    }
+
+    #[test]
+    fn a_spare_register_or_word_has_no_form() {
+        let (mut regs, waiting) = Port::fresh().saved();
+        regs[9] = 1;
+        assert_eq!(port_to_bytes(&regs, &waiting), Err(FormError::Spare));
+        assert!(!Port::restored(&regs, &waiting).1.reachable());
+        let mut words = Clock::fresh().saved();
+        words[7] = 1;
+        assert_eq!(clock_to_bytes(&words), Err(FormError::Spare));
+        assert!(!Clock::restored(&words).1.reachable());
+    }
 }

@@ -2,7 +2,7 @@
 
 use std::time::{SystemTime, UNIX_EPOCH};
 
-use crate::proved::{self, Clock};
+use crate::proved::{self, Clock, Words};
 use crate::FormError;
 
 /// Stands where vm-superio has its callbacks for events. There are none yet, so [`NoEvents`] alone has it.
@@ -43,7 +43,7 @@ impl RtcState {
     ///
     /// vm-superio does not have this.
     pub fn is_reachable(&self) -> bool {
-        Clock::restored(&self.words()).1
+        Clock::restored(&self.words()).1.reachable()
     }
 
     /// The state as bytes, in the form that docs/STATE-FORMAT.md tells. One whose offset does not lie within 33 signed
@@ -61,7 +61,7 @@ impl RtcState {
         proved::clock_from_bytes(form).map(Self::new)
     }
 
-    fn new([lr, mr, imsc, ris, offset_low, offset_high]: [u32; 6]) -> Self {
+    fn new([lr, mr, imsc, ris, offset_low, offset_high, ..]: Words) -> Self {
         let offset = u64::from(offset_high) << 32 | u64::from(offset_low);
         RtcState {
             lr,
@@ -72,8 +72,8 @@ impl RtcState {
         }
     }
 
-    /// The words as they lie in a clock's memory.
-    fn words(&self) -> [u32; 6] {
+    /// The words as they lie in a clock's memory, the spare ones 0.
+    fn words(&self) -> Words {
         let (offset_low, offset_high) = (self.offset as u32, (self.offset >> 32) as u32);
         [
             self.lr,
@@ -82,6 +82,8 @@ impl RtcState {
             self.ris,
             offset_low,
             offset_high,
+            0,
+            0,
         ]
     }
 }
@@ -185,7 +187,7 @@ impl<EV: RtcEvents> Rtc<EV> {
     ///
     /// vm-superio does not have this. It is for a monitor that keeps the time itself.
     pub fn read_at(&mut self, seconds: u64, offset: u16, data: &mut [u8; 4]) -> bool {
-        self.clock.read(offset, seconds, data)
+        !self.clock.read(offset, seconds, data).refused()
     }
 
     /// As [`write`](Self::write), with `seconds` for the host's time. Answers whether there was a register to
@@ -193,6 +195,6 @@ impl<EV: RtcEvents> Rtc<EV> {
     ///
     /// vm-superio does not have this. It is for a monitor that keeps the time itself.
     pub fn write_at(&mut self, seconds: u64, offset: u16, data: &[u8; 4]) -> bool {
-        self.clock.write(offset, seconds, data)
+        !self.clock.write(offset, seconds, data).refused()
     }
 }

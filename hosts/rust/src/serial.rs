@@ -4,7 +4,7 @@ use std::error;
 use std::fmt;
 use std::io::{self, Write};
 
-use crate::proved::{self, Port};
+use crate::proved::{self, Port, Regs};
 use crate::{FormError, Trigger};
 
 /// Stands where vm-superio has its callbacks for events. There are none yet, so [`NoEvents`] alone has it.
@@ -60,7 +60,7 @@ impl SerialState {
     pub fn is_reachable(&self) -> bool {
         Port::restored(&self.registers(), &self.in_buffer)
             .1
-            .reached()
+            .reachable()
     }
 
     /// The state as bytes, in the form that docs/STATE-FORMAT.md tells. One with more than 64 bytes has none:
@@ -87,7 +87,7 @@ impl SerialState {
         Ok(Self::new(registers, waiting))
     }
 
-    fn new([dll, ier, iir, lcr, mcr, lsr, msr, scr, dlm]: [u8; 9], waiting: Vec<u8>) -> Self {
+    fn new([dll, ier, iir, lcr, mcr, lsr, msr, scr, dlm, ..]: Regs, waiting: Vec<u8>) -> Self {
         SerialState {
             baud_divisor_low: dll,
             baud_divisor_high: dlm,
@@ -102,9 +102,10 @@ impl SerialState {
         }
     }
 
-    /// The registers as they lie in a port's memory.
-    fn registers(&self) -> [u8; 9] {
-        [
+    /// The registers as they lie in a port's memory, the spare ones 0.
+    fn registers(&self) -> Regs {
+        let mut regs = Regs::default();
+        regs[..9].copy_from_slice(&[
             self.baud_divisor_low,
             self.interrupt_enable,
             self.interrupt_identification,
@@ -114,7 +115,8 @@ impl SerialState {
             self.modem_status,
             self.scratch,
             self.baud_divisor_high,
-        ]
+        ]);
+        regs
     }
 }
 
@@ -286,11 +288,11 @@ impl<T: Trigger, EV: SerialEvents, W: Write> Serial<T, EV, W> {
     /// none are taken.
     pub fn enqueue_raw_bytes(&mut self, input: &[u8]) -> Result<usize, Error<T::E>> {
         let answer = self.port.input(input);
-        if answer.full() {
+        if answer.refused() {
             return Err(Error::FullFifo);
         }
         self.raise(answer.raises())?;
-        Ok(answer.taken())
+        Ok(answer.number())
     }
 
     fn send(&mut self, byte: u8) -> io::Result<()> {

@@ -108,6 +108,7 @@ fn errors_say_what_is_wrong() {
             FormError::Offset,
             "the clock's offset does not lie within 33 signed bits",
         ),
+        (FormError::Spare, "a spare byte or word is not 0"),
     ];
     for (error, words) in errors {
         assert_eq!(error.to_string(), words);
@@ -139,6 +140,7 @@ fn reason(error: FormError) -> String {
         FormError::Version => "version",
         FormError::TooManyBytes => "too many",
         FormError::Offset => "offset",
+        FormError::Spare => "spare",
     };
     words.to_string()
 }

@@ -1,0 +1,62 @@
+/*
+ * Serialpost: the proved functions themselves, as libserialpost.a has them. For C and C++ serialpost.h is the page to
+ * read: it has a typed call for each of these and says what it does. This page is for the bindings of other languages.
+ *
+ * An answer of 32 bits is a word with the layout below; a bit that a call has no use for is 0. Of the numbers, a
+ * reply or a byte to send has 8 bits. `saved` and `waiting` are the parts of a saved port.
+ */
+#ifndef SERIALPOST_RAW_H
+#define SERIALPOST_RAW_H
+
+#include <stdbool.h>
+#include <stdint.h>
+
+#ifdef __cplusplus
+extern "C" {
+#endif
+
+enum {
+    SERIALPOST_WORD_NUMBER = 0xffff,     /* a reply, a byte to send, how many bytes; of a refused form the reason */
+    SERIALPOST_WORD_REFUSED = 0x10000,   /* refused: an input because the port is full */
+    SERIALPOST_WORD_SENDS = 0x20000,     /* the number is a byte to send */
+    SERIALPOST_WORD_REACHABLE = 0x40000, /* a run comes to the restored state */
+    SERIALPOST_WORD_RAISE = 0x1000000    /* one raise: from here on stands how many there are */
+};
+
+struct serialpost_clock;
+
+uint32_t serialpost_raw_version(void);
+
+void serialpost_raw_serial_init(uint8_t regs[16], uint32_t pos[4]);
+uint32_t serialpost_raw_serial_read(uint8_t regs[16], uint32_t pos[4], const uint8_t ring[1024], uint8_t offset);
+uint32_t serialpost_raw_serial_write(uint8_t regs[16], uint32_t pos[4], uint8_t ring[1024], uint8_t offset, uint8_t value);
+uint32_t serialpost_raw_serial_input(uint8_t regs[16], uint32_t pos[4], uint8_t ring[1024], const uint8_t *input,
+                                     uint64_t length);
+uint32_t serialpost_raw_serial_room(const uint32_t pos[4]);
+bool serialpost_raw_serial_play(uint8_t regs[16], uint32_t pos[4], uint8_t ring[1024], const uint8_t *ops,
+                                uint64_t ops_length, const uint8_t *inputs, uint64_t inputs_length, uint32_t *answers,
+                                uint64_t answers_length);
+uint32_t serialpost_raw_serial_save(const uint8_t regs[16], const uint32_t pos[4], const uint8_t ring[1024],
+                                    uint8_t saved[16], uint8_t waiting[1024]);
+uint32_t serialpost_raw_serial_restore(uint8_t regs[16], uint32_t pos[4], uint8_t ring[1024], const uint8_t saved[16],
+                                       const uint8_t *waiting, uint64_t length);
+uint32_t serialpost_raw_serial_encode(const uint8_t saved[16], const uint8_t *waiting, uint64_t waiting_length, uint8_t *form,
+                                      uint64_t form_length);
+uint32_t serialpost_raw_serial_decode(const uint8_t *form, uint64_t length, uint8_t saved[16], uint8_t waiting[1024]);
+
+void serialpost_raw_clock_init(struct serialpost_clock *clock);
+uint32_t serialpost_raw_clock_read(const struct serialpost_clock *clock, uint16_t offset, uint64_t time, uint8_t bytes[4]);
+uint32_t serialpost_raw_clock_write(struct serialpost_clock *clock, uint16_t offset, uint64_t time, const uint8_t bytes[4]);
+void serialpost_raw_clock_save(const struct serialpost_clock *clock, struct serialpost_clock *saved);
+uint32_t serialpost_raw_clock_restore(struct serialpost_clock *clock, const struct serialpost_clock *saved);
+uint32_t serialpost_raw_clock_encode(const struct serialpost_clock *saved, uint8_t *form, uint64_t length);
+uint32_t serialpost_raw_clock_decode(const uint8_t *form, uint64_t length, struct serialpost_clock *saved);
+
+uint8_t serialpost_raw_i8042_read(uint8_t offset);
+bool serialpost_raw_i8042_write(uint8_t offset, uint8_t value);
+
+#ifdef __cplusplus
+}
+#endif
+
+#endif
