@@ -1,7 +1,7 @@
 /*
  * Any bytes, any arguments: throws random states and arguments at every function. What is lent lies against a page that
  * may not be touched, behind it in a first round and before it in a second, so that one byte too many, read or written,
- * ends the program.
+ * ends the program. The parts of a port lie apart for that, so the functions are called as serialpost_raw.h has them.
  */
 #include "any.h"
 #include <serialpost.h>
@@ -11,38 +11,62 @@
 
 /* ---- The serial port */
 
+#define REGS sizeof(((struct serialpost_serial *)0)->regs)
+#define POS sizeof(((struct serialpost_serial *)0)->pos)
+#define RING sizeof(((struct serialpost_serial *)0)->ring)
+#define FIRST_SPARE 9
+#define PARTS(port) (port)->regs, (port)->pos, (port)->ring
+
 struct port {
-    uint8_t *regs, *ring;
+    uint8_t *regs;
     uint32_t *pos;
+    uint8_t *ring;
 };
 
 static struct port fenced_port(bool at_end)
 {
-    return (struct port){ lent(fence(at_end), 9), lent(fence(at_end), 64), lent(fence(at_end), 8) };
+    struct port port = { lent(fence(at_end), REGS), lent(fence(at_end), POS), lent(fence(at_end), RING) };
+    any_bytes(port.ring, RING);
+    return port;
 }
 
+/* The ring gets only some new bytes each time, to be quick. The first waiting byte often lies near its end. */
 static void any_state(struct port port)
 {
-    any_bytes(port.regs, 9);
-    any_bytes(port.ring, 64);
-    any_bytes(port.pos, 8);
+    any_bytes(port.regs, REGS);
+    any_bytes(port.pos, POS);
+    any_bytes(port.ring + any() % 16 * 64, 64);
     if (!once_in(4))
         port.pos[1] %= 67;
+    if (once_in(4))
+        port.pos[0] = port.pos[0] / RING * RING + RING - port.pos[0] % 70;
 }
 
 static struct serialpost_serial copy(struct port port)
 {
     struct serialpost_serial copied;
-    memcpy(copied.regs, port.regs, 9);
-    memcpy(copied.ring, port.ring, 64);
-    memcpy(copied.pos, port.pos, 8);
+    memcpy(copied.regs, port.regs, REGS);
+    memcpy(copied.pos, port.pos, POS);
+    memcpy(copied.ring, port.ring, RING);
     return copied;
 }
 
 static bool is(struct port port, const struct serialpost_serial *other)
 {
-    return memcmp(port.regs, other->regs, 9) == 0 && memcmp(port.ring, other->ring, 64) == 0
-           && memcmp(port.pos, other->pos, 8) == 0;
+    return memcmp(port.regs, other->regs, REGS) == 0 && memcmp(port.pos, other->pos, POS) == 0
+           && memcmp(port.ring, other->ring, RING) == 0;
+}
+
+static bool spares_kept(struct port port, const struct serialpost_serial *before)
+{
+    return memcmp(port.regs + FIRST_SPARE, before->regs + FIRST_SPARE, REGS - FIRST_SPARE) == 0
+           && port.pos[2] == before->pos[2] && port.pos[3] == before->pos[3];
+}
+
+static bool spares_zero(const uint8_t *regs)
+{
+    static const uint8_t zero[REGS - FIRST_SPARE];
+    return memcmp(regs + FIRST_SPARE, zero, sizeof zero) == 0;
 }
 
 static uint8_t any_offset(void)
@@ -54,9 +78,9 @@ static void any_read(struct port port)
 {
     struct serialpost_serial before = copy(port);
     uint8_t offset = any_offset();
-    uint32_t answer = serialpost_serial_read(port.regs, port.pos, port.ring, offset);
+    uint32_t answer = serialpost_raw_serial_read(PARTS(&port), offset);
     EXPECT(answer <= 0xff);
-    EXPECT(memcmp(port.ring, before.ring, 64) == 0);
+    EXPECT(memcmp(port.ring, before.ring, RING) == 0 && spares_kept(port, &before));
     EXPECT(offset < 8 || (answer == 0 && is(port, &before)));
 }
 
@@ -64,9 +88,12 @@ static void any_write(struct port port)
 {
     struct serialpost_serial before = copy(port);
     uint8_t offset = any_offset();
-    uint32_t answer = serialpost_serial_write(port.regs, port.pos, port.ring, offset, (uint8_t)any());
-    EXPECT(SERIALPOST_RAISES(answer) <= (offset == SERIALPOST_IER ? 2 : 1));
-    EXPECT(SERIALPOST_SENDS(answer) || SERIALPOST_BYTE(answer) == 0);
+    uint8_t value = (uint8_t)any();
+    uint32_t answer = serialpost_raw_serial_write(PARTS(&port), offset, value);
+    EXPECT(answer / SERIALPOST_WORD_RAISE <= (offset == SERIALPOST_IER ? 2 : 1));
+    uint32_t sent = answer % SERIALPOST_WORD_RAISE;
+    EXPECT(sent == 0 || sent == (uint32_t)(SERIALPOST_WORD_SENDS | value));
+    EXPECT(spares_kept(port, &before));
     EXPECT(offset < 8 || (answer == 0 && is(port, &before)));
 }
 
@@ -74,74 +101,80 @@ static void any_input(struct port port, struct fenced input)
 {
     struct serialpost_serial before = copy(port);
     size_t length = any() % 200;
-    uint32_t room = serialpost_serial_room(port.pos);
-    uint32_t answer = serialpost_serial_input(port.regs, port.pos, port.ring, lent(input, length), length);
-    EXPECT(SERIALPOST_TAKEN(answer) <= room && SERIALPOST_TAKEN(answer) <= length);
-    EXPECT(SERIALPOST_INPUT_RAISES(answer) <= 1);
-    EXPECT(serialpost_serial_room(port.pos) == room - SERIALPOST_TAKEN(answer));
-    EXPECT(!SERIALPOST_FULL(answer) || (room == 0 && answer == 0x10000));
-    EXPECT(SERIALPOST_TAKEN(answer) > 0 || is(port, &before));
+    uint32_t room = serialpost_raw_serial_room(port.pos);
+    uint32_t answer = serialpost_raw_serial_input(PARTS(&port), lent(input, length), length);
+    uint32_t taken = answer & SERIALPOST_WORD_NUMBER;
+    EXPECT(taken <= room && taken <= length);
+    EXPECT(answer / SERIALPOST_WORD_RAISE <= 1);
+    EXPECT(serialpost_raw_serial_room(port.pos) == room - taken);
+    EXPECT((answer & 0xff0000) == 0 || (room == 0 && answer == SERIALPOST_WORD_REFUSED));
+    EXPECT(spares_kept(port, &before));
+    EXPECT(taken > 0 || is(port, &before));
 }
 
-/* Writes a port down, into `kept` for its registers and ring. */
+/* Saves a port, into `kept` for its registers and ring. */
 static void any_save(struct port port, struct port kept)
 {
     struct serialpost_serial before = copy(port);
-    uint8_t waiting[64];
-    any_bytes(kept.regs, 9);
-    any_bytes(kept.ring, 64);
-    memcpy(waiting, kept.ring, 64);
-    uint32_t count = serialpost_serial_save(port.regs, port.pos, port.ring, kept.regs, kept.ring);
-    EXPECT(count == 64 - serialpost_serial_room(port.pos));
+    uint8_t waiting[RING];
+    any_bytes(kept.regs, REGS);
+    any_bytes(kept.ring, 70);
+    memcpy(waiting, kept.ring, RING);
+    uint32_t count = serialpost_raw_serial_save(PARTS(&port), kept.regs, kept.ring);
+    EXPECT(count == 64 - serialpost_raw_serial_room(port.pos));
     for (uint32_t i = 0; i < count; i++)
-        waiting[i] = port.ring[(port.pos[0] + i) % 64];
-    EXPECT(is(port, &before) && memcmp(kept.regs, port.regs, 9) == 0 && memcmp(kept.ring, waiting, 64) == 0);
+        waiting[i] = port.ring[(port.pos[0] + i) % RING];
+    EXPECT(is(port, &before) && memcmp(kept.regs, port.regs, REGS) == 0 && memcmp(kept.ring, waiting, RING) == 0);
 }
 
-/* Registers to be brought back: any, or half of the time such as a run may leave where `length` bytes wait, or nearly. */
-static void any_saved(uint8_t regs[9], size_t length)
+/* Registers to be restored: any, or half of the time such as a run may leave where `length` bytes wait, or nearly. */
+static void any_saved(uint8_t *regs, size_t length)
 {
-    any_bytes(regs, 9);
+    any_bytes(regs, REGS);
     if (once_in(2))
         return;
     regs[SERIALPOST_IER] &= 0x0f;
     regs[SERIALPOST_IIR] = once_in(2) ? 0x01 : (uint8_t)(any() % 4 * 2);
     regs[SERIALPOST_LSR] = length == 0 ? 0x60 : 0x61;
     regs[SERIALPOST_MSR] = 0xb0;
+    memset(regs + FIRST_SPARE, 0, REGS - FIRST_SPARE);
     if (once_in(4))
-        regs[any() % 9] ^= (uint8_t)(1 << any() % 8);
+        regs[any() % REGS] ^= (uint8_t)(1 << any() % 8);
 }
 
-/* Whether a run comes to these registers while `length` bytes wait: crates/runs/specs/Reachable.antt. */
-static bool run_leaves_port(const uint8_t regs[9], size_t length)
+/* Whether a run comes to these registers while `length` bytes wait: crates/runs/specs/Reachable.antt. No run sets a
+ * spare one. */
+static bool run_leaves_port(const uint8_t *regs, size_t length)
 {
     uint8_t enabled = regs[SERIALPOST_IER], marked = regs[SERIALPOST_IIR];
     bool marks = marked == 1 || marked == 2 || (length > 0 && (marked == 4 || marked == 6));
     bool transmitter_read = (enabled & 3) != 2 || marked != 4;
     bool receiver_read = (enabled & 3) != 1 || marked != 2 || length < 64;
     return enabled < 16 && marks && transmitter_read && receiver_read && regs[SERIALPOST_LSR] == (length > 0 ? 0x61 : 0x60)
-           && regs[SERIALPOST_MSR] == 0xb0;
+           && regs[SERIALPOST_MSR] == 0xb0 && spares_zero(regs);
 }
 
-/* Brings a port back. Answers whether a run could have come to it. */
+/* Restores a port. Answers whether a run could have come to it. */
 static bool any_restore(struct port port, struct port kept, struct fenced input)
 {
-    struct serialpost_serial before = copy(port), again;
+    struct serialpost_serial before = copy(port);
+    struct serialpost_serial_saved again;
     size_t length = any() % 70;
     uint8_t *waiting = lent(input, length), *regs = kept.regs;
     any_bytes(waiting, length);
     any_saved(regs, length);
-    uint32_t answer = serialpost_serial_restore(port.regs, port.pos, port.ring, regs, waiting, length);
+    uint32_t answer = serialpost_raw_serial_restore(PARTS(&port), regs, waiting, length);
     if (length > 64) {
-        EXPECT(answer == 0x10000 && is(port, &before));
+        EXPECT(answer == SERIALPOST_WORD_REFUSED && is(port, &before));
         return false;
     }
     uint8_t enabled = regs[SERIALPOST_IER], marked = regs[SERIALPOST_IIR];
     uint32_t raises = ((enabled & 2) && (marked & 2)) + ((enabled & 1) && (marked & 4));
     bool reached = run_leaves_port(regs, length);
-    EXPECT(answer == raises * 0x20000 + reached);
-    EXPECT(serialpost_serial_save(port.regs, port.pos, port.ring, again.regs, again.ring) == length);
-    EXPECT(memcmp(again.regs, regs, 9) == 0 && memcmp(again.ring, waiting, length) == 0);
+    EXPECT(answer == raises * SERIALPOST_WORD_RAISE + (reached ? SERIALPOST_WORD_REACHABLE : 0));
+    EXPECT(memcmp(port.regs, regs, REGS) == 0 && port.pos[2] == before.pos[2] && port.pos[3] == before.pos[3]);
+    EXPECT(serialpost_raw_serial_save(PARTS(&port), again.regs, again.waiting) == length);
+    EXPECT(memcmp(again.regs, regs, REGS) == 0 && memcmp(again.waiting, waiting, length) == 0);
     return reached;
 }
 
@@ -152,7 +185,7 @@ static void any_access(bool at_end)
     int reached = 0;
     for (int round = 0; round < ROUNDS; round++) {
         any_state(port);
-        EXPECT(serialpost_serial_room(port.pos) == (port.pos[1] < 64 ? 64 - port.pos[1] : 0));
+        EXPECT(serialpost_raw_serial_room(port.pos) == (port.pos[1] < 64 ? 64 - port.pos[1] : 0));
         switch (any() % 5) {
         case 0:
             any_read(port);
@@ -171,8 +204,9 @@ static void any_access(bool at_end)
             break;
         }
         if (once_in(100)) {
-            serialpost_serial_init(port.regs, port.pos);
-            EXPECT(serialpost_serial_room(port.pos) == 64);
+            serialpost_raw_serial_init(port.regs, port.pos);
+            EXPECT(serialpost_raw_serial_room(port.pos) == 64);
+            EXPECT(spares_zero(port.regs) && port.pos[2] == 0 && port.pos[3] == 0);
         }
     }
     EXPECT(reached > ROUNDS / 50 && reached < ROUNDS / 10);
@@ -201,13 +235,13 @@ static uint32_t by_itself(struct serialpost_serial *port, const uint8_t *op, con
 {
     switch (op[0]) {
     case 0:
-        return serialpost_serial_read(SERIALPOST_PARTS(port), op[1]);
+        return serialpost_raw_serial_read(PARTS(port), op[1]);
     case 1:
-        return serialpost_serial_write(SERIALPOST_PARTS(port), op[1], op[2]);
+        return serialpost_raw_serial_write(PARTS(port), op[1], op[2]);
     case 2:
-        return serialpost_serial_input(SERIALPOST_PARTS(port), input, op[1]);
+        return serialpost_raw_serial_input(PARTS(port), input, op[1]);
     default:
-        return serialpost_serial_room(port->pos);
+        return serialpost_raw_serial_room(port->pos);
     }
 }
 
@@ -226,8 +260,8 @@ static void any_play(bool at_end)
         uint32_t *words = lent(answers, room * sizeof *words), before[40];
         memcpy(before, words, room * sizeof *words);
         any_state(port);
-        struct serialpost_serial same = copy(port);
-        if (serialpost_serial_play(port.regs, port.pos, port.ring, run, 3 * operations + cut, input, length, words, room)) {
+        struct serialpost_serial before_run = copy(port), same = before_run;
+        if (serialpost_raw_serial_play(PARTS(&port), run, 3 * operations + cut, input, length, words, room)) {
             for (size_t i = 0; i < operations; i++) {
                 EXPECT(words[i] == by_itself(&same, run + 3 * i, input));
                 input += run[3 * i] == 2 ? run[3 * i + 1] : 0;
@@ -235,7 +269,7 @@ static void any_play(bool at_end)
             }
             played++;
         }
-        EXPECT(is(port, &same));
+        EXPECT(is(port, &same) && spares_kept(port, &before_run));
         EXPECT(memcmp(words, before, room * sizeof *words) == 0);
     }
     EXPECT(played > ROUNDS / 16 && played < ROUNDS / 5);
@@ -266,13 +300,17 @@ static void any_clock(bool at_end)
         memcpy(bytes_before, bytes, 4);
         uint64_t time = (uint64_t)any() << 40 ^ any();
         bool reads = once_in(2);
-        bool valid = reads ? serialpost_clock_read(clock, any_clock_offset(), time, bytes)
-                           : serialpost_clock_write(clock, any_clock_offset(), time, bytes);
+        uint32_t answer = reads ? serialpost_raw_clock_read(clock, any_clock_offset(), time, bytes)
+                                : serialpost_raw_clock_write(clock, any_clock_offset(), time, bytes);
+        EXPECT(answer == 0 || answer == SERIALPOST_WORD_REFUSED);
+        EXPECT(clock->spare[0] == before.spare[0] && clock->spare[1] == before.spare[1]);
+        bool valid = answer == 0;
         EXPECT((valid && !reads) || memcmp(clock, &before, sizeof before) == 0);
         EXPECT((valid && reads) || memcmp(bytes, bytes_before, 4) == 0);
         if (once_in(100)) {
-            serialpost_clock_init(clock);
-            EXPECT(clock->load == 0 && clock->offset_low == 0 && clock->offset_high == 0);
+            static const struct serialpost_clock fresh;
+            serialpost_raw_clock_init(clock);
+            EXPECT(memcmp(clock, &fresh, sizeof fresh) == 0);
         }
     }
 }
@@ -281,7 +319,8 @@ static void any_clock(bool at_end)
 static bool run_leaves_clock(const struct serialpost_clock *clock)
 {
     int64_t ahead = (int64_t)((uint64_t)clock->offset_high << 32 | clock->offset_low), load = clock->load;
-    return clock->mask < 2 && clock->raw_status == 0 && ahead <= load && ahead > load - 0x100000000;
+    return clock->mask < 2 && clock->raw_status == 0 && ahead <= load && ahead > load - 0x100000000 && clock->spare[0] == 0
+           && clock->spare[1] == 0;
 }
 
 static void any_saved_clock(bool at_end)
@@ -292,13 +331,15 @@ static void any_saved_clock(bool at_end)
         any_bytes(clock, sizeof *clock);
         any_bytes(saved, sizeof *saved);
         if (once_in(2))
-            *saved = (struct serialpost_clock){ any() % 8, any(), any() % 3, any() % 2, any() % 8, 0 - any() % 2 };
+            *saved = (struct serialpost_clock){ any() % 8, any(), any() % 3, any() % 2, any() % 8, 0 - any() % 2, { 0, 0 } };
+        if (once_in(8))
+            saved->spare[any() % 2] = any();
         before = *saved;
-        EXPECT(serialpost_clock_restore(clock, saved) == run_leaves_clock(&before));
+        EXPECT(serialpost_raw_clock_restore(clock, saved) == (run_leaves_clock(&before) ? SERIALPOST_WORD_REACHABLE : 0));
         reached += run_leaves_clock(&before);
         EXPECT(memcmp(clock, &before, sizeof before) == 0 && memcmp(saved, &before, sizeof before) == 0);
         any_bytes(saved, sizeof *saved);
-        serialpost_clock_save(clock, saved);
+        serialpost_raw_clock_save(clock, saved);
         EXPECT(memcmp(clock, &before, sizeof before) == 0 && memcmp(saved, &before, sizeof before) == 0);
     }
     EXPECT(reached > ROUNDS / 50 && reached < ROUNDS / 4);

@@ -27,8 +27,11 @@ static bool once_in(uint32_t times)
 
 static void any_bytes(void *memory, size_t size)
 {
-    for (size_t i = 0; i < size; i++)
-        ((uint8_t *)memory)[i] = (uint8_t)any();
+    uint32_t four = 0;
+    for (size_t i = 0; i < size; i++) {
+        four = i % 4 == 0 ? any() : four >> 8;
+        ((uint8_t *)memory)[i] = (uint8_t)four;
+    }
 }
 
 /* Memory that lies at the end of its page or at its start. */

@@ -13,16 +13,16 @@
 #include <errno.h>
 
 #define LONGEST 100
-#define REASONS 6
+#define REASONS 7
 #define LEAST_COUNT 1000
 
-/* A written-down device; a port's waiting bytes may be more than there is room for. */
+/* A saved device; of a port more bytes may wait than there is room for. */
 struct state {
     struct serialpost_clock saved; /* the larger of the two devices' */
-    uint8_t waiting[68];
+    uint8_t waiting[WAITING];
 };
 
-/* ---- Where a form and a written-down device lie */
+/* ---- Where a form and a saved device lie */
 
 struct place {
     uint8_t *form, *waiting;
@@ -66,14 +66,15 @@ static uint32_t read_in(struct place place, const struct device *device, const u
     struct state own;
     memcpy(place.form, form, length);
     any_bytes(place.saved, device->saved_size);
-    any_bytes(place.waiting, 64);
+    any_bytes(place.waiting, LONGEST);
+    memset(place.waiting + LONGEST, (int)any(), WAITING - LONGEST);
     memcpy(&own.saved, place.saved, device->saved_size);
-    memcpy(own.waiting, place.waiting, 64);
+    memcpy(own.waiting, place.waiting, WAITING);
 
     uint32_t answer = device->read(place.form, length, place.saved, place.waiting);
     EXPECT(answer == device->own_reader(form, length, &own.saved, own.waiting));
     EXPECT(memcmp(place.saved, &own.saved, device->saved_size) == 0);
-    EXPECT(memcmp(place.waiting, own.waiting, 64) == 0);
+    EXPECT(memcmp(place.waiting, own.waiting, WAITING) == 0);
     EXPECT(memcmp(place.form, form, length) == 0);
     return answer;
 }
@@ -88,23 +89,29 @@ static void write_again(struct place place, const struct device *device, const u
 
 static uint32_t read_everywhere(const struct device *device, const uint8_t *form, size_t length)
 {
-    struct place blocks = in_blocks(device, length, 64);
+    struct place blocks = in_blocks(device, length, WAITING);
     uint32_t answer = read_in(blocks, device, form, length);
-    if (!SERIALPOST_REFUSED(answer))
+    if (!is_refused(answer))
         write_again(blocks, device, form, length, answer);
     free_blocks(blocks);
     for (int at_end = 0; at_end < 2; at_end++)
-        EXPECT(read_in(at_fences(device, length, 64, at_end), device, form, length) == answer);
+        EXPECT(read_in(at_fences(device, length, WAITING, at_end), device, form, length) == answer);
     return answer;
 }
 
 /* ---- Writing */
 
-/* Any state. A clock's offset often lies at an end of what a form can hold. */
+/* Any state. What is spare is mostly 0; a clock's offset often lies at an end of what a form can hold. */
 static struct state any_state(const struct device *device)
 {
     struct state state;
-    any_bytes(&state, sizeof state);
+    any_bytes(&state.saved, sizeof state.saved);
+    any_bytes(state.waiting, LONGEST);
+    uint8_t *saved = (uint8_t *)&state.saved;
+    size_t spare = device == &a_clock ? offsetof(struct serialpost_clock, spare) : 9;
+    memset(saved + spare, 0, device->saved_size - spare);
+    if (once_in(8))
+        saved[spare + any() % (device->saved_size - spare)] = (uint8_t)(1 << any() % 8);
     if (device == &a_clock && !once_in(8)) {
         static const uint32_t ends[] = { 0, UINT32_MAX }, beyond[] = { 1, UINT32_MAX - 1 };
         if (once_in(2))
@@ -187,31 +194,38 @@ static size_t damaged(const struct device *device, uint8_t form[LONGEST], size_t
     }
 }
 
-static size_t any_form(const struct device *device, uint8_t form[LONGEST])
+/* `unwritten` counts the states that have no form, by reason. */
+static size_t any_form(const struct device *device, uint8_t form[LONGEST], unsigned long unwritten[REASONS])
 {
     any_bytes(form, LONGEST);
     if (once_in(4))
         return any_bytes_at_all(form);
     uint32_t length = device == &serial_port && once_in(4) ? (uint32_t)first_version(form) : true_form(device, form);
-    if (SERIALPOST_REFUSED(length))
+    if (is_refused(length)) {
+        unwritten[length - 0x10000]++;
         return any_bytes_at_all(form);
+    }
     return once_in(3) ? length : damaged(device, form, length);
 }
 
 static void forms_of(const struct device *device, unsigned long count)
 {
-    unsigned long met[REASONS] = { 0 };
+    unsigned long met[REASONS] = { 0 }, unwritten[REASONS] = { 0 };
+    int own_reason = device == &serial_port ? 4 : 5, other_reason = 9 - own_reason;
     for (unsigned long i = 0; i < count; i++) {
         uint8_t form[LONGEST];
-        size_t length = any_form(device, form);
+        size_t length = any_form(device, form, unwritten);
         uint32_t answer = read_everywhere(device, form, length);
-        met[SERIALPOST_REFUSED(answer) ? answer - 0x10000 : 0]++;
+        met[is_refused(answer) ? answer - 0x10000 : 0]++;
     }
     printf("%s: %lu states; too short %lu, trailing %lu, version %lu, too many %lu, offset %lu\n", device->name, met[0],
            met[1], met[2], met[3], met[4], met[5]);
+    printf("without a form: too many %lu, offset %lu, spare %lu\n", unwritten[4], unwritten[5], unwritten[6]);
     for (int reason = 0; reason < REASONS; reason++) {
-        bool none = reason == (device == &serial_port ? 5 : 4);
+        bool none = reason == other_reason || reason == 6;
         EXPECT(none ? met[reason] == 0 : met[reason] > count / 100);
+        bool no_form = reason == own_reason || reason == 6;
+        EXPECT(no_form ? unwritten[reason] > count / 200 : unwritten[reason] == 0);
     }
 }
 

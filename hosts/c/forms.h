@@ -34,6 +34,7 @@ static uint32_t own_serial_reader(const uint8_t *form, size_t length, void *save
     if (length > 13 + n)
         return REASON(2);
     memcpy(saved, form + 2, 9);
+    memset((uint8_t *)saved + 9, 0, 7);
     for (uint64_t i = 0; i < n; i++)
         waiting[i] = form[13 + i];
     return (uint32_t)n;
@@ -65,6 +66,7 @@ static uint32_t own_clock_reader(const uint8_t *form, size_t length, void *saved
     clock->raw_status = (uint32_t)number_at(form, 14, 4);
     clock->offset_low = (uint32_t)offset;
     clock->offset_high = (uint32_t)((uint64_t)offset >> 32);
+    clock->spare[0] = clock->spare[1] = 0;
     return 0;
 }
 
@@ -72,39 +74,53 @@ static uint32_t own_clock_reader(const uint8_t *form, size_t length, void *saved
 
 static uint32_t own_serial_size(const void *saved, size_t count)
 {
-    (void)saved;
-    return count > 64 ? REASON(4) : 13 + (uint32_t)count;
+    const uint8_t *regs = saved;
+    if (count > 64)
+        return REASON(4);
+    for (size_t i = 9; i < 16; i++)
+        if (regs[i] != 0)
+            return REASON(6);
+    return 13 + (uint32_t)count;
 }
 
 static uint32_t own_clock_size(const void *saved, size_t count)
 {
     (void)count;
     const struct serialpost_clock *clock = saved;
-    return has_33_bits((int64_t)((uint64_t)clock->offset_high << 32 | clock->offset_low)) ? 26 : REASON(5);
+    if (!has_33_bits((int64_t)((uint64_t)clock->offset_high << 32 | clock->offset_low)))
+        return REASON(5);
+    return clock->spare[0] != 0 || clock->spare[1] != 0 ? REASON(6) : 26;
 }
 
-/* ---- The library */
+/* ---- The library, as serialpost_raw.h has it: the parts of a saved port may lie apart */
+
+#define WAITING SERIALPOST_SERIAL_PLACES
+
+static bool is_refused(uint32_t word)
+{
+    return (word & SERIALPOST_WORD_REFUSED) != 0;
+}
 
 static uint32_t read_serial(const uint8_t *form, size_t length, void *saved, uint8_t *waiting)
 {
-    return serialpost_serial_decode(form, length, saved, waiting);
+    return serialpost_raw_serial_decode(form, length, saved, waiting);
 }
 
 static uint32_t write_serial(const void *saved, const uint8_t *waiting, size_t count, uint8_t *form, size_t length)
 {
-    return serialpost_serial_encode(saved, waiting, count, form, length);
+    return serialpost_raw_serial_encode(saved, waiting, count, form, length);
 }
 
 static uint32_t read_clock(const uint8_t *form, size_t length, void *saved, uint8_t *waiting)
 {
     (void)waiting;
-    return serialpost_clock_decode(form, length, saved);
+    return serialpost_raw_clock_decode(form, length, saved);
 }
 
 static uint32_t write_clock(const void *saved, const uint8_t *waiting, size_t count, uint8_t *form, size_t length)
 {
     (void)waiting, (void)count;
-    return serialpost_clock_encode(saved, form, length);
+    return serialpost_raw_clock_encode(saved, form, length);
 }
 
 /* A device's forms. What is saved are `saved_size` bytes and, of a serial port, those that wait. */
@@ -118,7 +134,7 @@ struct device {
 };
 
 static const struct device serial_port = {
-    "serial", 9, read_serial, own_serial_reader, write_serial, own_serial_size,
+    "serial", 16, read_serial, own_serial_reader, write_serial, own_serial_size,
 };
 static const struct device a_clock = {
     "clock", sizeof(struct serialpost_clock), read_clock, own_clock_reader, write_clock, own_clock_size,

@@ -1,8 +1,8 @@
 /*
  * Of an argument of 8 or 16 bits only these count: what lies above them in its register is up to the caller's compiler.
- * Each function with such an argument is called as the header has it, and once more with 64 bits of which the upper
- * ones are random; both must answer and do the same. A bool that is answered has 8 bits, which must be 0 or 1; what
- * lies above them is the function's to leave, and no caller may look at it.
+ * Each function with such an argument is called by its typed call, and once more with 64 bits of which the upper ones
+ * are random; both must answer and do the same. A bool that is answered has 8 bits, which must be 0 or 1; what lies
+ * above them is the function's to leave, and no caller may look at it.
  */
 #include "any.h"
 #include <serialpost.h>
@@ -11,7 +11,7 @@
 #define ROUNDS 200000
 
 /* The same functions, as a caller sees them that fills whole registers and reads whole registers. */
-#define WHOLE(name) __asm__("serialpost_" #name)
+#define WHOLE(name) __asm__("serialpost_raw_" #name)
 uint64_t whole_serial_read(uint8_t *regs, uint32_t *pos, const uint8_t *ring, uint64_t offset) WHOLE(serial_read);
 uint64_t whole_serial_write(uint8_t *regs, uint32_t *pos, uint8_t *ring, uint64_t offset, uint64_t value)
     WHOLE(serial_write);
@@ -22,7 +22,6 @@ uint64_t whole_clock_read(const struct serialpost_clock *clock, uint64_t offset,
     WHOLE(clock_read);
 uint64_t whole_clock_write(struct serialpost_clock *clock, uint64_t offset, uint64_t time, const uint8_t *bytes)
     WHOLE(clock_write);
-uint64_t whole_clock_restore(struct serialpost_clock *clock, const struct serialpost_clock *saved) WHOLE(clock_restore);
 uint64_t whole_i8042_read(uint64_t offset) WHOLE(i8042_read);
 uint64_t whole_i8042_write(uint64_t offset, uint64_t value) WHOLE(i8042_write);
 
@@ -31,6 +30,8 @@ static uint64_t any_above(int bits, uint64_t value)
     uint64_t above = once_in(4) ? UINT64_MAX : (uint64_t)any() << 40 ^ (uint64_t)any() << 20 ^ any();
     return value | above << bits;
 }
+
+#define PARTS(port) (port)->regs, (port)->pos, (port)->ring
 
 static bool is_bool(uint64_t answer, bool expected)
 {
@@ -49,10 +50,11 @@ static void serial_accesses(void)
 {
     struct serialpost_serial port = any_port(), same = port;
     uint8_t offset = (uint8_t)(once_in(4) ? any() : any() % 9), value = (uint8_t)any();
-    EXPECT((uint32_t)whole_serial_write(SERIALPOST_PARTS(&same), any_above(8, offset), any_above(8, value))
-           == serialpost_serial_write(SERIALPOST_PARTS(&port), offset, value));
-    EXPECT((uint32_t)whole_serial_read(SERIALPOST_PARTS(&same), any_above(8, offset))
-           == serialpost_serial_read(SERIALPOST_PARTS(&port), offset));
+    struct serialpost_written wrote = serialpost_serial_write(&port, offset, value);
+    EXPECT((uint32_t)whole_serial_write(PARTS(&same), any_above(8, offset), any_above(8, value))
+           == wrote.byte + (wrote.sends ? 0x20000 : 0) + wrote.raises * 0x1000000);
+    struct serialpost_read read = serialpost_serial_read(&port, offset);
+    EXPECT((uint32_t)whole_serial_read(PARTS(&same), any_above(8, offset)) == read.reply + read.raises * 0x1000000);
     EXPECT(memcmp(&port, &same, sizeof port) == 0);
 }
 
@@ -62,9 +64,14 @@ static void runs(void)
     struct serialpost_serial port = any_port(), same = port;
     uint8_t ops[3] = { (uint8_t)(any() % 8), 0, 0 }, input = 0;
     uint32_t answer;
-    bool played = serialpost_serial_play(SERIALPOST_PARTS(&port), ops, sizeof ops, &input, 0, &answer, 1);
+    bool played = serialpost_serial_play(&port, ops, sizeof ops, &input, 0, &answer, 1);
     EXPECT(played == (ops[0] < 4));
-    EXPECT(is_bool(whole_serial_play(SERIALPOST_PARTS(&same), ops, sizeof ops, &input, 0, &answer, 1), played));
+    EXPECT(is_bool(whole_serial_play(PARTS(&same), ops, sizeof ops, &input, 0, &answer, 1), played));
+}
+
+static bool is_access(uint64_t answer, struct serialpost_clock_access expected)
+{
+    return (uint32_t)answer == (expected.refused ? 0x10000 : 0) + expected.raises * 0x1000000;
 }
 
 static void clock_accesses(void)
@@ -77,15 +84,11 @@ static void clock_accesses(void)
     memcpy(same_bytes, bytes, sizeof bytes);
     uint16_t offset = (uint16_t)(once_in(4) ? any() : once_in(4) ? 0xfe0 + any() % 32 : any() % 9 * 4);
     uint64_t time = (uint64_t)any() << 40 ^ any();
-    EXPECT(is_bool(whole_clock_write(&same, any_above(16, offset), time, bytes),
-                   serialpost_clock_write(&clock, offset, time, bytes)));
-    EXPECT(is_bool(whole_clock_read(&same, any_above(16, offset), time, same_bytes),
-                   serialpost_clock_read(&clock, offset, time, bytes)));
-    EXPECT(memcmp(bytes, same_bytes, sizeof bytes) == 0);
-    if (once_in(2))
-        clock = (struct serialpost_clock){ any(), any(), any() % 3, any() % 2, 0, 0 };
-    EXPECT(is_bool(whole_clock_restore(&same, &clock), serialpost_clock_restore(&same, &clock)));
-    EXPECT(memcmp(&clock, &same, sizeof clock) == 0);
+    EXPECT(is_access(whole_clock_write(&same, any_above(16, offset), time, bytes),
+                     serialpost_clock_write(&clock, offset, time, bytes)));
+    EXPECT(is_access(whole_clock_read(&same, any_above(16, offset), time, same_bytes),
+                     serialpost_clock_read(&clock, offset, time, bytes)));
+    EXPECT(memcmp(bytes, same_bytes, sizeof bytes) == 0 && memcmp(&clock, &same, sizeof clock) == 0);
 }
 
 static void reset_accesses(void)

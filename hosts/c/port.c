@@ -2,36 +2,35 @@
 #include <serialpost.h>
 #include <stdio.h>
 
-static void raise_interrupt(void)
+static void raise_interrupt(uint32_t times)
 {
-    /* signal the eventfd that the hypervisor listens to */
+    (void)times; /* signal the eventfd that the hypervisor listens to so many times */
 }
 
 static void guest_writes(struct serialpost_serial *port, uint8_t offset, uint8_t value)
 {
-    uint32_t answer = serialpost_serial_write(SERIALPOST_PARTS(port), offset, value);
-    if (SERIALPOST_SENDS(answer))
-        putchar(SERIALPOST_BYTE(answer));
-    if (SERIALPOST_RAISES(answer))
-        raise_interrupt();
+    struct serialpost_written wrote = serialpost_serial_write(port, offset, value);
+    if (wrote.sends)
+        putchar(wrote.byte);
+    raise_interrupt(wrote.raises);
 }
 
 static void someone_types(struct serialpost_serial *port, uint8_t byte)
 {
-    uint32_t answer = serialpost_serial_input(SERIALPOST_PARTS(port), &byte, 1);
-    if (SERIALPOST_INPUT_RAISES(answer))
-        raise_interrupt();
+    struct serialpost_input typed = serialpost_serial_input(port, &byte, 1);
+    raise_interrupt(typed.raises);
 }
 
 int main(void)
 {
+    if (serialpost_version() != SERIALPOST_VERSION)
+        return 1;
     struct serialpost_serial port;
-    serialpost_serial_init(port.regs, port.pos);
+    serialpost_serial_init(&port);
     guest_writes(&port, SERIALPOST_THR, '>');
     for (int typed; (typed = getchar()) != EOF;) {
         someone_types(&port, (uint8_t)typed);
-        uint32_t read = serialpost_serial_read(SERIALPOST_PARTS(&port), SERIALPOST_RBR);
-        guest_writes(&port, SERIALPOST_THR, SERIALPOST_REPLY(read));
+        guest_writes(&port, SERIALPOST_THR, serialpost_serial_read(&port, SERIALPOST_RBR).reply);
     }
     return 0;
 }

@@ -70,7 +70,7 @@ static void print_clock(const struct serialpost_clock *clock)
 
 static void answer(const struct device *device, const char *digits)
 {
-    uint8_t form[LONGEST], again[LONGEST], waiting[64], own_waiting[64] = { 0 };
+    uint8_t form[LONGEST], again[LONGEST], waiting[WAITING], own_waiting[WAITING] = { 0 };
     struct serialpost_clock saved, own_saved; /* the larger of the two devices' */
     size_t length = bytes_of(digits, form);
     printf("%s ", device->name);
@@ -80,12 +80,12 @@ static void answer(const struct device *device, const char *digits)
     memset(waiting, 0, sizeof waiting);
     uint32_t read = device->read(form, length, &saved, waiting);
     EXPECT(device->own_reader(form, length, &own_saved, own_waiting) == read);
-    if (SERIALPOST_REFUSED(read)) {
+    if (is_refused(read)) {
         EXPECT(read > 0x10000 && read <= SERIALPOST_OFFSET);
         printf("%s\n", reasons[read - 0x10000]);
         return;
     }
-    EXPECT(memcmp(&saved, &own_saved, device->saved_size) == 0 && memcmp(waiting, own_waiting, 64) == 0);
+    EXPECT(memcmp(&saved, &own_saved, device->saved_size) == 0 && memcmp(waiting, own_waiting, WAITING) == 0);
     EXPECT(device->write(&saved, waiting, read, again, LONGEST) == length && memcmp(again, form, length) == 0);
     if (device == &serial_port)
         print_port((const uint8_t *)&saved, waiting, read);

@@ -4,33 +4,42 @@
 #include <string.h>
 
 /* docs/PERFORMANCE.md says what a device takes. */
-_Static_assert(sizeof(struct serialpost_serial) == 84, "a port");
-_Static_assert(sizeof(struct serialpost_clock) == 24, "a clock");
+_Static_assert(sizeof(struct serialpost_serial) == 1056, "a port");
+_Static_assert(sizeof(struct serialpost_clock) == 32, "a clock");
 
 /* ---- The serial port as a host uses it */
 
 static uint8_t read_at(struct serialpost_serial *port, uint8_t offset)
 {
-    uint32_t answer = serialpost_serial_read(SERIALPOST_PARTS(port), offset);
-    EXPECT(SERIALPOST_RAISES(answer) == 0);
-    return SERIALPOST_REPLY(answer);
+    struct serialpost_read answer = serialpost_serial_read(port, offset);
+    EXPECT(answer.raises == 0);
+    return answer.reply;
 }
 
+/* A write that sends nothing. Answers its raises. */
 static uint32_t write_at(struct serialpost_serial *port, uint8_t offset, uint8_t value)
 {
-    return serialpost_serial_write(SERIALPOST_PARTS(port), offset, value);
+    struct serialpost_written answer = serialpost_serial_write(port, offset, value);
+    EXPECT(!answer.sends && answer.byte == 0);
+    return answer.raises;
 }
 
-static uint32_t type_in(struct serialpost_serial *port, const void *bytes, size_t length)
+static bool sends(struct serialpost_serial *port, uint8_t byte, uint32_t raises)
 {
-    return serialpost_serial_input(SERIALPOST_PARTS(port), bytes, length);
+    struct serialpost_written answer = serialpost_serial_write(port, SERIALPOST_THR, byte);
+    return answer.sends && answer.byte == byte && answer.raises == raises;
+}
+
+static struct serialpost_input type_in(struct serialpost_serial *port, const void *bytes, size_t length)
+{
+    return serialpost_serial_input(port, bytes, length);
 }
 
 static struct serialpost_serial fresh_port(void)
 {
     struct serialpost_serial port;
     memset(&port, 0xa5, sizeof port);
-    serialpost_serial_init(port.regs, port.pos);
+    serialpost_serial_init(&port);
     return port;
 }
 
@@ -42,15 +51,17 @@ static void a_fresh_port(void)
         EXPECT(read_at(&port, offset) == shown[offset]);
     write_at(&port, SERIALPOST_LCR, 0x83);
     EXPECT(read_at(&port, 0) == 0x0c && read_at(&port, 1) == 0x00);
-    EXPECT(serialpost_serial_room(port.pos) == SERIALPOST_SERIAL_CAPACITY);
+    EXPECT(serialpost_serial_room(&port) == SERIALPOST_SERIAL_CAPACITY);
+    static const uint8_t no_spare[7] = { 0 };
+    EXPECT(memcmp(port.regs + 9, no_spare, sizeof no_spare) == 0 && port.pos[2] == 0 && port.pos[3] == 0);
 }
 
 static void input_is_read_in_order(void)
 {
     struct serialpost_serial port = fresh_port();
     write_at(&port, SERIALPOST_IER, 0x01);
-    uint32_t answer = type_in(&port, "abc", 3);
-    EXPECT(SERIALPOST_TAKEN(answer) == 3 && !SERIALPOST_FULL(answer) && SERIALPOST_INPUT_RAISES(answer) == 1);
+    struct serialpost_input answer = type_in(&port, "abc", 3);
+    EXPECT(answer.taken == 3 && !answer.full && answer.raises == 1);
     EXPECT(read_at(&port, SERIALPOST_LSR) == 0x61);
     EXPECT(read_at(&port, SERIALPOST_IIR) == 0xc4);
     for (const char *byte = "abc"; *byte; byte++)
@@ -61,28 +72,25 @@ static void input_is_read_in_order(void)
 static void output_is_sent(void)
 {
     struct serialpost_serial port = fresh_port();
-    uint32_t answer = write_at(&port, SERIALPOST_THR, 'x');
-    EXPECT(SERIALPOST_SENDS(answer) && SERIALPOST_BYTE(answer) == 'x' && SERIALPOST_RAISES(answer) == 0);
-    EXPECT(SERIALPOST_RAISES(write_at(&port, SERIALPOST_IER, 0x02)) == 1);
+    EXPECT(sends(&port, 'x', 0));
+    EXPECT(write_at(&port, SERIALPOST_IER, 0x02) == 1);
     EXPECT(read_at(&port, SERIALPOST_IIR) == 0xc2);
-    answer = write_at(&port, SERIALPOST_THR, 0);
-    EXPECT(SERIALPOST_SENDS(answer) && SERIALPOST_BYTE(answer) == 0 && SERIALPOST_RAISES(answer) == 1);
-    answer = write_at(&port, SERIALPOST_THR, 'y');
-    EXPECT(SERIALPOST_SENDS(answer) && SERIALPOST_RAISES(answer) == 0);
-    EXPECT(!SERIALPOST_SENDS(write_at(&port, SERIALPOST_SCR, 'z')));
+    EXPECT(sends(&port, 0, 1));
+    EXPECT(sends(&port, 'y', 0));
+    EXPECT(write_at(&port, SERIALPOST_SCR, 'z') == 0);
 }
 
 static void a_full_port_refuses(void)
 {
     struct serialpost_serial port = fresh_port();
     uint8_t many[65] = { 0 };
-    EXPECT(SERIALPOST_TAKEN(type_in(&port, many, 65)) == 64);
-    EXPECT(serialpost_serial_room(port.pos) == 0);
-    EXPECT(type_in(&port, many, 0) == 0);
-    uint32_t answer = type_in(&port, many, 1);
-    EXPECT(SERIALPOST_FULL(answer) && SERIALPOST_TAKEN(answer) == 0 && SERIALPOST_INPUT_RAISES(answer) == 0);
+    EXPECT(type_in(&port, many, 65).taken == 64);
+    EXPECT(serialpost_serial_room(&port) == 0);
+    EXPECT(!type_in(&port, many, 0).full);
+    struct serialpost_input answer = type_in(&port, many, 1);
+    EXPECT(answer.full && answer.taken == 0 && answer.raises == 0);
     read_at(&port, SERIALPOST_RBR);
-    EXPECT(SERIALPOST_TAKEN(type_in(&port, many, 2)) == 1);
+    EXPECT(type_in(&port, many, 2).taken == 1);
 }
 
 static void the_loop_returns_what_is_written(void)
@@ -90,9 +98,10 @@ static void the_loop_returns_what_is_written(void)
     struct serialpost_serial port = fresh_port();
     write_at(&port, SERIALPOST_IER, 0x01);
     write_at(&port, SERIALPOST_MCR, 0x10);
-    EXPECT(SERIALPOST_RAISES(write_at(&port, SERIALPOST_THR, 7)) == 1);
+    EXPECT(write_at(&port, SERIALPOST_THR, 7) == 1);
     EXPECT(write_at(&port, SERIALPOST_THR, 8) == 0);
-    EXPECT(type_in(&port, "no", 2) == 0);
+    struct serialpost_input answer = type_in(&port, "no", 2);
+    EXPECT(answer.taken == 0 && !answer.full && answer.raises == 0);
     EXPECT(read_at(&port, SERIALPOST_RBR) == 7 && read_at(&port, SERIALPOST_RBR) == 8);
     EXPECT(read_at(&port, SERIALPOST_RBR) == 0);
     write_at(&port, SERIALPOST_MCR, 0x13);
@@ -102,31 +111,35 @@ static void the_loop_returns_what_is_written(void)
 static void a_run_is_the_calls_one_after_another(void)
 {
     struct serialpost_serial port = fresh_port(), same = port;
-    static const uint8_t ops[] = { 1, 1, 1, 2, 3, 0, 3, 0, 0, 0, 5, 0, 0, 0, 0 };
-    uint32_t answers[5], word[5];
-    EXPECT(serialpost_serial_play(SERIALPOST_PARTS(&port), ops, sizeof ops, (const uint8_t *)"abc", 3, answers, 5));
-    word[0] = write_at(&same, SERIALPOST_IER, 1);
-    word[1] = type_in(&same, "abc", 3);
-    word[2] = serialpost_serial_room(same.pos);
-    word[3] = read_at(&same, SERIALPOST_LSR);
-    word[4] = read_at(&same, SERIALPOST_RBR);
-    EXPECT(memcmp(answers, word, sizeof word) == 0);
+    static const uint8_t ops[] = { 1, 1, 1, 2, 3, 0, 3, 0, 0, 0, 5, 0, 0, 0, 0, 1, 0, 'x' };
+    uint32_t answers[6];
+    EXPECT(serialpost_serial_play(&port, ops, sizeof ops, (const uint8_t *)"abc", 3, answers, 6));
+    EXPECT(serialpost_written_of(answers[0]).raises == write_at(&same, SERIALPOST_IER, 1));
+    struct serialpost_input typed = serialpost_input_of(answers[1]), same_typed = type_in(&same, "abc", 3);
+    EXPECT(typed.taken == same_typed.taken && typed.full == same_typed.full && typed.raises == same_typed.raises);
+    EXPECT(answers[2] == serialpost_serial_room(&same));
+    EXPECT(serialpost_read_of(answers[3]).reply == read_at(&same, SERIALPOST_LSR));
+    EXPECT(serialpost_read_of(answers[4]).reply == read_at(&same, SERIALPOST_RBR));
+    struct serialpost_written sent = serialpost_written_of(answers[5]);
+    EXPECT(sent.sends && sent.byte == 'x' && sends(&same, 'x', sent.raises));
     EXPECT(memcmp(&port, &same, sizeof port) == 0);
+    EXPECT(!serialpost_serial_play(&port, ops, sizeof ops - 1, (const uint8_t *)"abc", 3, answers, 6));
 }
 
-/* ---- A port written down and brought back */
+/* ---- A port saved and restored */
 
 static struct serialpost_serial_saved saved_from(const struct serialpost_serial *port)
 {
     struct serialpost_serial_saved saved;
     memset(&saved, 0xa5, sizeof saved);
-    saved.count = serialpost_serial_save(SERIALPOST_PARTS(port), saved.regs, saved.waiting);
+    serialpost_serial_save(port, &saved);
     return saved;
 }
 
-static uint32_t restore(struct serialpost_serial *port, const struct serialpost_serial_saved *saved)
+static bool restores(struct serialpost_serial *port, const struct serialpost_serial_saved *saved, bool reachable)
 {
-    return serialpost_serial_restore(SERIALPOST_PARTS(port), saved->regs, saved->waiting, saved->count);
+    struct serialpost_restored answer = serialpost_serial_restore(port, saved);
+    return !answer.refused && answer.reachable == reachable && answer.raises == 0;
 }
 
 /* A machine moves to another host while someone types: nothing is lost, and the new host's line hears of it. */
@@ -140,13 +153,14 @@ static void a_console_moves_to_another_host(void)
 
     struct serialpost_serial_saved saved = saved_from(&here);
     EXPECT(saved.count == 6 && memcmp(saved.waiting, "ls -l\n", 6) == 0 && saved.waiting[6] == 0xa5);
-    static const uint8_t regs[] = { 0x0c, 0x01, 0x04, 0x03, 0x08, 0x61, 0xb0, 0x00, 0x00 };
+    static const uint8_t regs[16] = { 0x0c, 0x01, 0x04, 0x03, 0x08, 0x61, 0xb0 };
     EXPECT(memcmp(saved.regs, regs, sizeof regs) == 0);
 
     memset(&there, 0x5a, sizeof there);
-    uint32_t answer = restore(&there, &saved);
-    EXPECT(!SERIALPOST_REFUSED(answer) && SERIALPOST_RESTORE_RAISES(answer) == 1 && SERIALPOST_REACHED(answer));
-    EXPECT(serialpost_serial_room(there.pos) == SERIALPOST_SERIAL_CAPACITY - 6);
+    struct serialpost_restored answer = serialpost_serial_restore(&there, &saved);
+    EXPECT(!answer.refused && answer.raises == 1 && answer.reachable);
+    EXPECT(there.pos[2] == 0x5a5a5a5a && there.pos[3] == 0x5a5a5a5a);
+    EXPECT(serialpost_serial_room(&there) == SERIALPOST_SERIAL_CAPACITY - 6);
     EXPECT(read_at(&there, SERIALPOST_IIR) == 0xc4);
     for (const char *byte = "ls -l\n"; *byte; byte++)
         EXPECT(read_at(&there, SERIALPOST_RBR) == *byte);
@@ -162,34 +176,45 @@ static void what_is_enabled_and_marked_is_raised_again(void)
             saved.regs[SERIALPOST_IER] = ier;
             saved.regs[SERIALPOST_IIR] = iir;
             uint32_t transmitter = (ier & 0x02) && (iir & 0x02), received = (ier & 0x01) && (iir & 0x04);
-            EXPECT(SERIALPOST_RESTORE_RAISES(restore(&port, &saved)) == transmitter + received);
+            EXPECT(serialpost_serial_restore(&port, &saved).raises == transmitter + received);
         }
 }
 
-static void a_state_that_no_run_comes_to_is_brought_back_and_told(void)
+static void a_state_that_no_run_comes_to_is_restored_and_told(void)
 {
     struct serialpost_serial port = fresh_port();
     struct serialpost_serial_saved saved = saved_from(&port);
-    EXPECT(restore(&port, &saved) == 1);
+    EXPECT(restores(&port, &saved, true));
     saved.regs[SERIALPOST_MSR] = 0xff;
-    EXPECT(restore(&port, &saved) == 0 && read_at(&port, SERIALPOST_MSR) == 0xff);
+    EXPECT(restores(&port, &saved, false) && read_at(&port, SERIALPOST_MSR) == 0xff);
     saved.regs[SERIALPOST_MSR] = 0xb0;
+    saved.regs[15] = 1;
+    EXPECT(restores(&port, &saved, false) && port.regs[15] == 1);
+    saved.regs[15] = 0;
     saved.count = 64;
-    EXPECT(restore(&port, &saved) == 0 && read_at(&port, SERIALPOST_LSR) == 0x60);
-    EXPECT(serialpost_serial_room(port.pos) == 0 && read_at(&port, SERIALPOST_RBR) == 0xa5);
+    EXPECT(restores(&port, &saved, false) && read_at(&port, SERIALPOST_LSR) == 0x60);
+    EXPECT(serialpost_serial_room(&port) == 0 && read_at(&port, SERIALPOST_RBR) == 0xa5);
 }
 
+/* Also a count beyond all that the struct has room for. */
 static void a_65th_byte_is_refused_and_nothing_changes(void)
 {
+    static const uint32_t counts[] = { 65, 1023, 1024, 1025, UINT32_MAX };
     struct serialpost_serial port = fresh_port(), before;
     type_in(&port, "abc", 3);
     before = port;
-    uint8_t regs[9] = { 0 }, many[65] = { 0 };
-    uint32_t answer = serialpost_serial_restore(SERIALPOST_PARTS(&port), regs, many, sizeof many);
-    EXPECT(answer == 0x10000 && SERIALPOST_REFUSED(answer));
-    EXPECT(SERIALPOST_RESTORE_RAISES(answer) == 0 && !SERIALPOST_REACHED(answer));
-    EXPECT(memcmp(&port, &before, sizeof port) == 0);
-    EXPECT(!SERIALPOST_REFUSED(serialpost_serial_restore(SERIALPOST_PARTS(&port), regs, many, 64)));
+    struct serialpost_serial_saved saved = saved_from(&port);
+    uint8_t form[SERIALPOST_SERIAL_FORM_MOST];
+    for (size_t i = 0; i < sizeof counts / sizeof *counts; i++) {
+        saved.count = counts[i];
+        struct serialpost_restored answer = serialpost_serial_restore(&port, &saved);
+        EXPECT(answer.refused && !answer.reachable && answer.raises == 0);
+        EXPECT(memcmp(&port, &before, sizeof port) == 0);
+        struct serialpost_encoded encoded = serialpost_serial_encode(&saved, form, sizeof form);
+        EXPECT(encoded.length == 0 && encoded.reason == SERIALPOST_TOO_MANY);
+    }
+    saved.count = 64;
+    EXPECT(!serialpost_serial_restore(&port, &saved).refused);
 }
 
 static void a_port_is_kept_as_bytes(void)
@@ -199,19 +224,20 @@ static void a_port_is_kept_as_bytes(void)
     type_in(&port, "ls\n", 3);
     struct serialpost_serial_saved saved = saved_from(&port), again;
     uint8_t form[SERIALPOST_SERIAL_FORM_MOST];
-    uint32_t length = serialpost_serial_encode(saved.regs, saved.waiting, saved.count, form, sizeof form);
+    struct serialpost_encoded encoded = serialpost_serial_encode(&saved, form, sizeof form);
     static const uint8_t expected[] = { 2, 0, 0x0c, 1, 4, 3, 8, 0x61, 0xb0, 0, 0, 3, 0, 'l', 's', '\n' };
-    EXPECT(length == sizeof expected && memcmp(form, expected, length) == 0);
+    EXPECT(encoded.reason == SERIALPOST_NOT_REFUSED && encoded.length == sizeof expected);
+    EXPECT(memcmp(form, expected, sizeof expected) == 0);
 
-    again.count = serialpost_serial_decode(form, length, again.regs, again.waiting);
-    EXPECT(!SERIALPOST_REFUSED(again.count) && again.count == 3);
-    EXPECT(memcmp(again.regs, saved.regs, 9) == 0 && memcmp(again.waiting, "ls\n", 3) == 0);
-    EXPECT(serialpost_serial_decode(form, length - 1, again.regs, again.waiting) == SERIALPOST_TOO_SHORT);
+    EXPECT(serialpost_serial_decode(form, encoded.length, &again) == SERIALPOST_NOT_REFUSED && again.count == 3);
+    EXPECT(memcmp(again.regs, saved.regs, sizeof again.regs) == 0 && memcmp(again.waiting, "ls\n", 3) == 0);
+    EXPECT(serialpost_serial_decode(form, encoded.length - 1, &again) == SERIALPOST_TOO_SHORT && again.count == 3);
 
     saved.count = SERIALPOST_SERIAL_CAPACITY;
-    EXPECT(serialpost_serial_encode(saved.regs, saved.waiting, saved.count, form, sizeof form) == sizeof form);
-    uint8_t many[SERIALPOST_SERIAL_CAPACITY + 1] = { 0 };
-    EXPECT(serialpost_serial_encode(saved.regs, many, sizeof many, form, sizeof form) == SERIALPOST_TOO_MANY);
+    EXPECT(serialpost_serial_encode(&saved, form, sizeof form).length == sizeof form);
+    saved.regs[9] = 1;
+    encoded = serialpost_serial_encode(&saved, form, sizeof form);
+    EXPECT(encoded.length == 0 && encoded.reason == SERIALPOST_SPARE);
 }
 
 /* ---- The clock and the reset controller */
@@ -219,14 +245,17 @@ static void a_port_is_kept_as_bytes(void)
 static uint32_t clock_at(const struct serialpost_clock *clock, uint16_t offset, uint64_t time)
 {
     uint8_t bytes[4];
-    EXPECT(serialpost_clock_read(clock, offset, time, bytes));
+    struct serialpost_clock_access answer = serialpost_clock_read(clock, offset, time, bytes);
+    EXPECT(!answer.refused && answer.raises == 0);
     return bytes[0] | (uint32_t)bytes[1] << 8 | (uint32_t)bytes[2] << 16 | (uint32_t)bytes[3] << 24;
 }
 
 static bool set_clock(struct serialpost_clock *clock, uint16_t offset, uint64_t time, uint32_t value)
 {
     uint8_t bytes[4] = { (uint8_t)value, (uint8_t)(value >> 8), (uint8_t)(value >> 16), (uint8_t)(value >> 24) };
-    return serialpost_clock_write(clock, offset, time, bytes);
+    struct serialpost_clock_access answer = serialpost_clock_write(clock, offset, time, bytes);
+    EXPECT(answer.raises == 0);
+    return !answer.refused;
 }
 
 static void a_clock_runs(void)
@@ -246,7 +275,7 @@ static void a_clock_runs(void)
 
 static void a_clock_names_its_words(void)
 {
-    struct serialpost_clock clock = { 1, 2, 1, 5, 0, 0 };
+    struct serialpost_clock clock = { 1, 2, 1, 5, 0, 0, { 8, 9 } };
     EXPECT(clock_at(&clock, SERIALPOST_RTCLR, 0) == 1);
     EXPECT(clock_at(&clock, SERIALPOST_RTCMR, 0) == 2);
     EXPECT(clock_at(&clock, SERIALPOST_RTCIMSC, 0) == 1);
@@ -259,13 +288,14 @@ static void a_clock_names_its_words(void)
     EXPECT(clock_at(&clock, SERIALPOST_RTCDR, 3) == 10);
     clock.offset_high = 1;
     EXPECT(clock_at(&clock, SERIALPOST_RTCDR, 3) == 3);
+    EXPECT(clock.spare[0] == 8 && clock.spare[1] == 9);
 }
 
 static void a_clock_refuses(void)
 {
-    struct serialpost_clock clock = { 1, 2, 3, 4, 5, 6 }, before = clock;
+    struct serialpost_clock clock = { 1, 2, 3, 4, 5, 6, { 7, 8 } }, before = clock;
     uint8_t bytes[4] = { 1, 2, 3, 4 };
-    EXPECT(!serialpost_clock_read(&clock, SERIALPOST_RTCICR, 9, bytes));
+    EXPECT(serialpost_clock_read(&clock, SERIALPOST_RTCICR, 9, bytes).refused);
     EXPECT(memcmp(bytes, (uint8_t[]){ 1, 2, 3, 4 }, 4) == 0);
     EXPECT(!set_clock(&clock, SERIALPOST_RTCDR, 9, 0) && !set_clock(&clock, 0xfe0, 9, 0));
     EXPECT(memcmp(&clock, &before, sizeof clock) == 0);
@@ -282,42 +312,50 @@ static void a_clock_moves_to_another_host(void)
     set_clock(&here, SERIALPOST_RTCMR, 1000, 77);
     serialpost_clock_save(&here, &saved);
     EXPECT(saved.load == 5 && saved.match == 77 && saved.offset_low == (uint32_t)-995 && saved.offset_high == UINT32_MAX);
-    EXPECT(serialpost_clock_restore(&there, &saved));
+    EXPECT(serialpost_clock_restore(&there, &saved).reachable);
     EXPECT(clock_at(&there, SERIALPOST_RTCDR, 1010) == 15 && clock_at(&there, SERIALPOST_RTCMR, 1010) == 77);
 }
 
-static void a_clock_that_no_run_comes_to_is_brought_back_and_told(void)
+static void a_clock_that_no_run_comes_to_is_restored_and_told(void)
 {
     static const struct {
         struct serialpost_clock saved;
-        bool reached;
+        bool reachable;
     } clocks[] = {
-        { { 5, 9, 1, 0, 5, 0 }, true },           /* loaded with 5 at the second 0 */
-        { { 5, 9, 1, 0, 6, 0 }, false },          /* .. at the second -1 */
-        { { 5, 0, 0, 0, 6, UINT32_MAX }, true },  /* .. at the second 2^32 - 1 */
-        { { 5, 0, 0, 0, 5, UINT32_MAX }, false }, /* .. at the second 2^32 */
-        { { 0, 0, 0, 0, 0, 0x80000000 }, false },
-        { { 0, 0, 2, 0, 0, 0 }, false }, /* a mask of two bits */
-        { { 0, 0, 0, 1, 0, 0 }, false }, /* an interrupt, which nothing sets */
+        { { 5, 9, 1, 0, 5, 0, { 0, 0 } }, true },           /* loaded with 5 at the second 0 */
+        { { 5, 9, 1, 0, 6, 0, { 0, 0 } }, false },          /* .. at the second -1 */
+        { { 5, 0, 0, 0, 6, UINT32_MAX, { 0, 0 } }, true },  /* .. at the second 2^32 - 1 */
+        { { 5, 0, 0, 0, 5, UINT32_MAX, { 0, 0 } }, false }, /* .. at the second 2^32 */
+        { { 0, 0, 0, 0, 0, 0x80000000, { 0, 0 } }, false },
+        { { 0, 0, 2, 0, 0, 0, { 0, 0 } }, false }, /* a mask of two bits */
+        { { 0, 0, 0, 1, 0, 0, { 0, 0 } }, false }, /* an interrupt, which nothing sets */
+        { { 0, 0, 0, 0, 0, 0, { 1, 0 } }, false }, /* a spare word, and nothing sets it either */
+        { { 0, 0, 0, 0, 0, 0, { 0, 1 } }, false },
     };
     for (size_t i = 0; i < sizeof clocks / sizeof *clocks; i++) {
         struct serialpost_clock clock;
-        EXPECT(serialpost_clock_restore(&clock, &clocks[i].saved) == clocks[i].reached);
+        struct serialpost_restored answer = serialpost_clock_restore(&clock, &clocks[i].saved);
+        EXPECT(answer.reachable == clocks[i].reachable && !answer.refused && answer.raises == 0);
         EXPECT(memcmp(&clock, &clocks[i].saved, sizeof clock) == 0);
     }
 }
 
 static void a_clock_is_kept_as_bytes(void)
 {
-    struct serialpost_clock clock = { 5, 77, 1, 0, (uint32_t)-995, UINT32_MAX }, again;
+    struct serialpost_clock clock = { 5, 77, 1, 0, (uint32_t)-995, UINT32_MAX, { 0, 0 } }, again;
     uint8_t form[SERIALPOST_CLOCK_FORM_SIZE];
-    EXPECT(serialpost_clock_encode(&clock, form, sizeof form) == sizeof form);
+    struct serialpost_encoded encoded = serialpost_clock_encode(&clock, form, sizeof form);
+    EXPECT(encoded.length == sizeof form && encoded.reason == SERIALPOST_NOT_REFUSED);
     EXPECT(form[0] == 1 && form[1] == 0 && form[2] == 5 && form[6] == 77 && form[18] == 0x1d && form[19] == 0xfc);
-    EXPECT(serialpost_clock_decode(form, sizeof form, &again) == 0 && memcmp(&again, &clock, sizeof clock) == 0);
+    EXPECT(serialpost_clock_decode(form, sizeof form, &again) == SERIALPOST_NOT_REFUSED);
+    EXPECT(memcmp(&again, &clock, sizeof clock) == 0);
     form[0] = 2;
-    EXPECT(serialpost_clock_decode(form, sizeof form, &again) == SERIALPOST_VERSION);
+    EXPECT(serialpost_clock_decode(form, sizeof form, &again) == SERIALPOST_UNKNOWN_VERSION);
+    clock.spare[1] = 1;
+    EXPECT(serialpost_clock_encode(&clock, form, sizeof form).reason == SERIALPOST_SPARE);
     clock.offset_high = 1;
-    EXPECT(serialpost_clock_encode(&clock, form, sizeof form) == SERIALPOST_OFFSET && form[0] == 2);
+    encoded = serialpost_clock_encode(&clock, form, sizeof form);
+    EXPECT(encoded.length == 0 && encoded.reason == SERIALPOST_OFFSET && form[0] == 2);
 }
 
 static void one_write_resets(void)
@@ -331,6 +369,7 @@ static void one_write_resets(void)
 
 int main(void)
 {
+    EXPECT(serialpost_version() == SERIALPOST_VERSION);
     a_fresh_port();
     input_is_read_in_order();
     output_is_sent();
@@ -339,14 +378,14 @@ int main(void)
     a_run_is_the_calls_one_after_another();
     a_console_moves_to_another_host();
     what_is_enabled_and_marked_is_raised_again();
-    a_state_that_no_run_comes_to_is_brought_back_and_told();
+    a_state_that_no_run_comes_to_is_restored_and_told();
     a_65th_byte_is_refused_and_nothing_changes();
     a_port_is_kept_as_bytes();
     a_clock_runs();
     a_clock_names_its_words();
     a_clock_refuses();
     a_clock_moves_to_another_host();
-    a_clock_that_no_run_comes_to_is_brought_back_and_told();
+    a_clock_that_no_run_comes_to_is_restored_and_told();
     a_clock_is_kept_as_bytes();
     one_write_resets();
     return 0;

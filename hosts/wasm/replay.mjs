@@ -5,14 +5,14 @@
 // of `hosts/library wasm32-unknown-unknown`. What cannot be used gets one line on standard error and the status 2.
 import { createReadStream } from "node:fs";
 import { fail, loadNamed } from "./module.mjs";
-import { Clock, ResetController, SerialPort } from "./serialpost.mjs";
+import { Clock, ResetController, SerialPort, isRefused, numberOf, raisesOf, sends } from "./serialpost.mjs";
 import { bytesOf, clockOf, clockText, hex, hexOf, portOf, portText } from "./text.mjs";
 
 const LONGEST_LINE = 8192;
 const NO_OPERATION = "?";
 
 const number = (digits) => parseInt(digits, 16);
-const reachedText = (reached) => (reached ? "reached" : "unreached");
+const reachableText = (reachable) => (reachable ? "reached" : "unreached");
 
 // Each device's accesses: what a line looks like, and how it is answered.
 
@@ -30,15 +30,15 @@ class SerialLines {
     accesses = [
         [/^w ([0-9a-f]{2}) ([0-9a-f]{2})$/, (offset, value) => {
             const answer = this.port.write(number(offset), number(value));
-            return `w ${answer & 0x100 ? hex(answer & 0xff, 2) : "--"} ${answer >>> 9}`;
+            return `w ${sends(answer) ? hex(numberOf(answer), 2) : "--"} ${raisesOf(answer)}`;
         }],
         [/^r ([0-9a-f]{2})$/, (offset) => {
             const answer = this.port.read(number(offset));
-            return `r ${hex(answer & 0xff, 2)} ${answer >>> 9}`;
+            return `r ${hex(numberOf(answer), 2)} ${raisesOf(answer)}`;
         }],
         [/^b(?: ((?:[0-9a-f]{2})+))?$/, (bytes = "") => {
             const answer = this.port.input(bytesOf(bytes));
-            return `b ${answer & 0x10000 ? "full" : answer & 0xffff} ${answer >>> 17}`;
+            return `b ${isRefused(answer) ? "full" : numberOf(answer)} ${raisesOf(answer)}`;
         }],
         [/^room$/, () => `room ${this.port.room()}`],
         [/^state$/, () => `state ${portText(this.port.save())}`],
@@ -50,7 +50,7 @@ class SerialLines {
 
     restored(saved) {
         const answer = this.port.restore(saved);
-        return answer ? `restore ${answer.raises} ${reachedText(answer.reached)}` : "restore full";
+        return answer ? `restore ${answer.raises} ${reachableText(answer.reachable)}` : "restore full";
     }
 }
 
@@ -88,7 +88,7 @@ class ClockLines {
     ];
 
     restored(saved) {
-        return `restore ${reachedText(this.clock.restore(saved))}`;
+        return `restore ${reachableText(this.clock.restore(saved))}`;
     }
 }
 

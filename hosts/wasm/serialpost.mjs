@@ -1,17 +1,31 @@
-// The devices of serialpost.wasm for a JavaScript host. include/serialpost.h says what each call does; what is shown
-// there as a pointer is an address in the module's memory, and 64-bit numbers and lengths are BigInt.
+// The devices of serialpost.wasm for a JavaScript host. include/serialpost.h says what each call does. The module has the
+// functions of include/serialpost_raw.h: what is shown there as a pointer is an address in the module's memory, and 64-bit
+// numbers and lengths are BigInt.
 
 const CALLS = [
+    "version",
     "serial_init", "serial_read", "serial_write", "serial_input", "serial_room", "serial_play",
     "serial_save", "serial_restore", "serial_encode", "serial_decode",
     "clock_init", "clock_read", "clock_write", "clock_save", "clock_restore", "clock_encode", "clock_decode",
     "i8042_read", "i8042_write",
-].map((name) => `serialpost_${name}`);
+].map((name) => `serialpost_raw_${name}`);
+
+/** The interface that this file is written for. */
+const VERSION = 1;
 
 const PAGE = 65536;
-const CAPACITY = 64;
-const REFUSED = 0x10000;
-const REASONS = [undefined, "too short", "trailing", "version", "too many", "offset"];
+const REGS_SIZE = 16;
+const POS_SIZE = 16;
+const PLACES = 1024;
+const SERIAL_FORM_MOST = 77;
+const REASONS = [undefined, "too short", "trailing", "version", "too many", "offset", "spare"];
+
+// The word that a call answers, taken apart: one layout for all calls.
+export const numberOf = (answer) => answer & 0xffff;
+export const isRefused = (answer) => (answer & 0x1_0000) !== 0;
+export const sends = (answer) => (answer & 0x2_0000) !== 0;
+const isReachable = (answer) => (answer & 0x4_0000) !== 0;
+export const raisesOf = (answer) => answer >>> 24;
 
 /** A loaded module: its functions, and memory to lend to them. */
 export class Library {
@@ -23,6 +37,9 @@ export class Library {
         const missing = CALLS.find((name) => typeof exported[name] !== "function");
         if (missing !== undefined)
             throw new Error(`exports no ${missing}`);
+        const version = exported.serialpost_raw_version();
+        if (version !== VERSION)
+            throw new Error(`has version ${version}, and ${VERSION} is wanted`);
         this.calls = Object.fromEntries(Object.entries(exported).filter(([, value]) => typeof value === "function"));
         this.memory = memory;
         this.free = heap.value;
@@ -68,15 +85,15 @@ export class Library {
 const lengthOf = (array) => BigInt(array.length);
 
 /** Why a form is refused, or undefined where the answer is a number. */
-const reasonOf = (answer) => (answer & REFUSED ? REASONS[answer - REFUSED] : undefined);
+const reasonOf = (answer) => (isRefused(answer) ? REASONS[numberOf(answer)] : undefined);
 
-/** A 16550. A saved port is `{ regs, waiting }`, both bytes. */
+/** A 16550. A saved port is `{ regs, waiting }`, both bytes: of `regs` there are 16. */
 export class SerialPort {
     constructor(library) {
         this.library = library;
-        this.regs = library.reserve(9);
-        this.pos = library.reserve(8);
-        this.ring = library.reserve(CAPACITY);
+        this.regs = library.reserve(REGS_SIZE);
+        this.pos = library.reserve(POS_SIZE);
+        this.ring = library.reserve(PLACES);
         this.init();
     }
 
@@ -85,26 +102,26 @@ export class SerialPort {
     }
 
     init() {
-        this.library.calls.serialpost_serial_init(this.regs, this.pos);
+        this.library.calls.serialpost_raw_serial_init(this.regs, this.pos);
     }
 
-    /** The word that the call answers: the header says how to take it apart. So for the three below. */
+    /** The word that the call answers. So for the two below. */
     read(offset) {
-        return this.library.calls.serialpost_serial_read(...this.parts, offset) >>> 0;
+        return this.library.calls.serialpost_raw_serial_read(...this.parts, offset) >>> 0;
     }
 
     write(offset, value) {
-        return this.library.calls.serialpost_serial_write(...this.parts, offset, value) >>> 0;
+        return this.library.calls.serialpost_raw_serial_write(...this.parts, offset, value) >>> 0;
     }
 
     input(bytes) {
         const { calls } = this.library;
         return this.library.lending(
-            () => calls.serialpost_serial_input(...this.parts, this.library.copied(bytes), lengthOf(bytes)) >>> 0);
+            () => calls.serialpost_raw_serial_input(...this.parts, this.library.copied(bytes), lengthOf(bytes)) >>> 0);
     }
 
     room() {
-        return this.library.calls.serialpost_serial_room(this.pos) >>> 0;
+        return this.library.calls.serialpost_raw_serial_room(this.pos) >>> 0;
     }
 
     /** The answers to all operations of a run, or undefined where `ops` and `inputs` are no run. */
@@ -112,7 +129,7 @@ export class SerialPort {
         const { library } = this, count = Math.floor(ops.length / 3);
         return library.lending(() => {
             const answers = library.reserve(4 * count);
-            const played = library.calls.serialpost_serial_play(...this.parts, library.copied(ops), lengthOf(ops),
+            const played = library.calls.serialpost_raw_serial_play(...this.parts, library.copied(ops), lengthOf(ops),
                 library.copied(inputs), lengthOf(inputs), answers, BigInt(count));
             const words = library.view(answers, 4 * count);
             return played ? Array.from({ length: count }, (_, i) => words.getUint32(4 * i, true)) : undefined;
@@ -122,27 +139,27 @@ export class SerialPort {
     save() {
         const { library } = this;
         return library.lending(() => {
-            const regs = library.reserve(9), waiting = library.reserve(CAPACITY);
-            const count = library.calls.serialpost_serial_save(...this.parts, regs, waiting);
-            return { regs: library.bytes(regs, 9), waiting: library.bytes(waiting, count) };
+            const regs = library.reserve(REGS_SIZE), waiting = library.reserve(PLACES);
+            const count = library.calls.serialpost_raw_serial_save(...this.parts, regs, waiting);
+            return { regs: library.bytes(regs, REGS_SIZE), waiting: library.bytes(waiting, count) };
         });
     }
 
-    /** How often to raise the interrupt and whether a run comes to this state; undefined where it is refused. */
+    /** How often to raise the interrupt, and whether a run comes to this state; undefined where it is refused. */
     restore({ regs, waiting }) {
         const { library } = this;
-        const answer = library.lending(() => library.calls.serialpost_serial_restore(
+        const answer = library.lending(() => library.calls.serialpost_raw_serial_restore(
             ...this.parts, library.copied(regs), library.copied(waiting), lengthOf(waiting)) >>> 0);
-        return answer & REFUSED ? undefined : { raises: answer >>> 17, reached: (answer & 1) !== 0 };
+        return isRefused(answer) ? undefined : { raises: raisesOf(answer), reachable: isReachable(answer) };
     }
 }
 
 /** `{ form }` of a saved port, or the `{ reason }` why it has none. */
 export function encodePort(library, { regs, waiting }) {
     return library.lending(() => {
-        const room = 13 + CAPACITY, form = library.reserve(room);
-        const answer = library.calls.serialpost_serial_encode(
-            library.copied(regs), library.copied(waiting), lengthOf(waiting), form, BigInt(room));
+        const form = library.reserve(SERIAL_FORM_MOST);
+        const answer = library.calls.serialpost_raw_serial_encode(
+            library.copied(regs), library.copied(waiting), lengthOf(waiting), form, BigInt(SERIAL_FORM_MOST));
         const reason = reasonOf(answer);
         return reason ? { reason } : { form: library.bytes(form, answer) };
     });
@@ -151,34 +168,35 @@ export function encodePort(library, { regs, waiting }) {
 /** `{ saved }`, or the `{ reason }` why these bytes are no form of a port. */
 export function decodePort(library, form) {
     return library.lending(() => {
-        const regs = library.reserve(9), waiting = library.reserve(CAPACITY);
-        const answer = library.calls.serialpost_serial_decode(library.copied(form), lengthOf(form), regs, waiting);
+        const regs = library.reserve(REGS_SIZE), waiting = library.reserve(PLACES);
+        const answer = library.calls.serialpost_raw_serial_decode(library.copied(form), lengthOf(form), regs, waiting);
         const reason = reasonOf(answer);
         if (reason)
             return { reason };
-        return { saved: { regs: library.bytes(regs, 9), waiting: library.bytes(waiting, answer) } };
+        return { saved: { regs: library.bytes(regs, REGS_SIZE), waiting: library.bytes(waiting, answer) } };
     });
 }
 
-const CLOCK_SIZE = 24;
+const CLOCK_SIZE = 32;
 const CLOCK_FORM_SIZE = 26;
 
-/** The clock that lies there: numbers, the offset a BigInt of 64 bits without sign. */
+/** The clock that lies there: numbers; the offset and the spare words are BigInts of 64 bits without sign. */
 function clockAt(library, address) {
     const words = library.view(address, CLOCK_SIZE);
     const [load, match, mask, raw] = [0, 4, 8, 12].map((place) => words.getUint32(place, true));
-    return { load, match, mask, raw, offset: words.getBigUint64(16, true) };
+    return { load, match, mask, raw, offset: words.getBigUint64(16, true), spare: words.getBigUint64(24, true) };
 }
 
 /** The address of a copy of this clock. */
-function copiedClock(library, { load, match, mask, raw, offset }) {
+function copiedClock(library, { load, match, mask, raw, offset, spare }) {
     const address = library.reserve(CLOCK_SIZE), words = library.view(address, CLOCK_SIZE);
     [load, match, mask, raw].forEach((word, i) => words.setUint32(4 * i, word, true));
     words.setBigUint64(16, offset, true);
+    words.setBigUint64(24, spare, true);
     return address;
 }
 
-/** A PL031. A saved clock is `{ load, match, mask, raw, offset }`. */
+/** A PL031. A saved clock is `{ load, match, mask, raw, offset, spare }`. */
 export class Clock {
     constructor(library) {
         this.library = library;
@@ -187,7 +205,7 @@ export class Clock {
     }
 
     init() {
-        this.library.calls.serialpost_clock_init(this.address);
+        this.library.calls.serialpost_raw_clock_init(this.address);
     }
 
     /** What the four bytes hold after the read, and whether there is such a register. */
@@ -195,22 +213,23 @@ export class Clock {
         const { library } = this;
         return library.lending(() => {
             const there = library.copied(bytes);
-            const valid = library.calls.serialpost_clock_read(this.address, offset, time, there) !== 0;
-            return { bytes: library.bytes(there, 4), valid };
+            const answer = library.calls.serialpost_raw_clock_read(this.address, offset, time, there);
+            return { bytes: library.bytes(there, 4), valid: !isRefused(answer) };
         });
     }
 
+    /** Whether there is such a register. */
     write(offset, time, bytes) {
         const { library } = this;
         return library.lending(
-            () => library.calls.serialpost_clock_write(this.address, offset, time, library.copied(bytes)) !== 0);
+            () => !isRefused(library.calls.serialpost_raw_clock_write(this.address, offset, time, library.copied(bytes))));
     }
 
     save() {
         const { library } = this;
         return library.lending(() => {
             const saved = library.reserve(CLOCK_SIZE);
-            library.calls.serialpost_clock_save(this.address, saved);
+            library.calls.serialpost_raw_clock_save(this.address, saved);
             return clockAt(library, saved);
         });
     }
@@ -219,7 +238,7 @@ export class Clock {
     restore(saved) {
         const { library } = this;
         return library.lending(
-            () => library.calls.serialpost_clock_restore(this.address, copiedClock(library, saved)) !== 0);
+            () => isReachable(library.calls.serialpost_raw_clock_restore(this.address, copiedClock(library, saved))));
     }
 }
 
@@ -227,7 +246,7 @@ export class Clock {
 export function encodeClock(library, saved) {
     return library.lending(() => {
         const form = library.reserve(CLOCK_FORM_SIZE);
-        const answer = library.calls.serialpost_clock_encode(
+        const answer = library.calls.serialpost_raw_clock_encode(
             copiedClock(library, saved), form, BigInt(CLOCK_FORM_SIZE));
         const reason = reasonOf(answer);
         return reason ? { reason } : { form: library.bytes(form, answer) };
@@ -238,7 +257,7 @@ export function encodeClock(library, saved) {
 export function decodeClock(library, form) {
     return library.lending(() => {
         const saved = library.reserve(CLOCK_SIZE);
-        const answer = library.calls.serialpost_clock_decode(library.copied(form), lengthOf(form), saved);
+        const answer = library.calls.serialpost_raw_clock_decode(library.copied(form), lengthOf(form), saved);
         const reason = reasonOf(answer);
         return reason ? { reason } : { saved: clockAt(library, saved) };
     });
@@ -251,11 +270,11 @@ export class ResetController {
     }
 
     read(offset) {
-        return this.library.calls.serialpost_i8042_read(offset) & 0xff;
+        return this.library.calls.serialpost_raw_i8042_read(offset) & 0xff;
     }
 
     /** Whether to reset the machine. */
     write(offset, value) {
-        return this.library.calls.serialpost_i8042_write(offset, value) !== 0;
+        return this.library.calls.serialpost_raw_i8042_write(offset, value) !== 0;
     }
 }

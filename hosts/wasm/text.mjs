@@ -13,7 +13,7 @@ export function portText({ regs, waiting }) {
 
 /** A saved port from its nine registers in the format's order and its waiting bytes, in hex or `-`. */
 export function portOf(registers, waiting) {
-    const regs = new Uint8Array(9);
+    const regs = new Uint8Array(16);
     registers.forEach((word, i) => (regs[REGISTER_ORDER[i]] = parseInt(word, 16)));
     return { regs, waiting: bytesOf(waiting === "-" ? "" : waiting) };
 }
@@ -25,5 +25,6 @@ export function clockText({ load, offset, match, mask, raw }) {
 /** A saved clock from its words in the format's order. */
 export function clockOf(load, offset, match, mask, raw) {
     const word = (digits) => parseInt(digits, 16);
-    return { load: word(load), offset: BigInt(`0x${offset}`), match: word(match), mask: word(mask), raw: word(raw) };
+    const registers = { load: word(load), match: word(match), mask: word(mask), raw: word(raw) };
+    return { ...registers, offset: BigInt(`0x${offset}`), spare: 0n };
 }

@@ -32,7 +32,7 @@ const withAnyAbove = (bits, value) => (value | (any(2 ** (32 - bits)) << bits)) 
 
 /** The header's functions, each with the type of its result. */
 function declared() {
-    const found = inRepository("include/serialpost.h").matchAll(/^(\w+) (serialpost_\w+)\(/gm);
+    const found = inRepository("include/serialpost_raw.h").matchAll(/^(\w+) (serialpost_\w+)\(/gm);
     return new Map(Array.from(found, ([, result, name]) => [name, result]));
 }
 
@@ -112,6 +112,9 @@ function statesWithoutAFormAreRefused(library) {
     expect(encodePort(library, port).reason, "too many", "65 bytes wait");
     const clock = { ...new Clock(library).save(), offset: 2n ** 32n };
     expect(encodeClock(library, clock).reason, "offset", "a clock is 2^32 ahead");
+    const spare = { ...new SerialPort(library).save(), regs: new Uint8Array(16).fill(1, 15) };
+    expect(encodePort(library, spare).reason, "spare", "a spare register is 1");
+    expect(encodeClock(library, { ...new Clock(library).save(), spare: 1n }).reason, "spare", "a spare word is 1");
 }
 
 // ---- States
@@ -122,7 +125,7 @@ function devicesAreSavedAndRestored(library) {
     port.input(anyBytes(70));
     const answer = other.restore(port.save());
     expect(answer.raises, 1, "a restored port's interrupts");
-    expect(answer.reached, true, "whether a run comes to the port");
+    expect(answer.reachable, true, "whether a run comes to the port");
     expect(portText(other.save()), portText(port.save()), "a restored port");
     expect(other.restore({ ...port.save(), waiting: anyBytes(65) }), undefined, "65 bytes are brought back");
 
@@ -161,11 +164,17 @@ function upperBitsOfClockOffsetsDoNotCount(library) {
     expect(clockText(clock.save()), clockText(same.save()), "the clock after all of these");
 }
 
+function theHeaderHasThisVersion(library) {
+    const [, version] = /^#define SERIALPOST_VERSION (\d+)$/m.exec(inRepository("include/serialpost.h"));
+    expect(library.calls.serialpost_raw_version(), Number(version), "the version");
+}
+
 function main(words) {
     const library = loadNamed(words), results = declared(), called = new Set();
     const exported = Object.keys(library.calls);
     watch(library, results, called);
     expect(sorted(exported), sorted(results.keys()), "the module's functions");
+    theHeaderHasThisVersion(library);
     runsAreCallsOneAfterAnother(library);
     formsAreAsRecorded(library);
     statesWithoutAFormAreRefused(library);
