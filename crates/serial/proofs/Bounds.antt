@@ -7,7 +7,7 @@ use Prim.Native.Nat.{ℕ, _+_, _*_, _/_, _%_, _≤_, _<_}
 use native.Mathlib.Omega.{arith}
 use lib.ListN.{length}
 use Rattle.serial.specs.Port.{Out, Input}
-use Rattle.serial.specs.Layout.{portOf}
+use Rattle.serial.specs.Layout.{capacity, portOf}
 use Rattle.serial.specs.Calls.{readWord, writeWord, inputWord}
 use Rattle.serial.proofs.Answering.{waiting-length}
 
@@ -15,6 +15,9 @@ use Rattle.serial.proofs.Answering.{waiting-length}
 pub never-over : (regs pos ring : List ℕ) → length (portOf regs pos ring .waiting) ≤ portOf regs pos ring .size
 unfolding portOf
 never-over regs pos ring = omega (arith, waiting-length regs pos ring)
+
+pub memory-fits : (regs pos ring : List ℕ) → length (portOf regs pos ring .waiting) ≤ capacity
+memory-fits regs pos ring = omega (arith, waiting-length regs pos ring)
 
 -- A word's parts: a byte; whether a byte is sent, or the input refused; how often the interrupt is raised.
 pub read-word : (o : Out) → o .reply < 256 → (readWord o % 256 ≡ o .reply) × (readWord o / 512 ≡ o .raises)

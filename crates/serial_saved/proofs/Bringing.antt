@@ -16,7 +16,7 @@ use Rattle.serial.specs.Ring.{queue}
 use Rattle.serial.specs.Layout.{capacity, startOf, countOf, portOf, spareOf}
 use Rattle.serial.specs.Inside.{Put}
 use Rattle.serial.proofs.Answering.{waiting-length}
-use Rattle.runs.specs.Reachable.{Reachable}
+use Rattle.serial.specs.Reachable.{Reachable}
 use Rattle.serial_saved.specs.Saved.{savedOf, raisedAgain, Restore, restoreOf}
 use Rattle.serial_saved.specs.Calls.{Saves, restoreWord, Restores}
 use Rattle.serial_saved.specs.Inside.{Unrolled}

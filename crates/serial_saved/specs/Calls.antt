@@ -6,7 +6,7 @@ use mathlib.Core.List.{List, [], _∷_}
 use mathlib.Core.Bool.{Bool, true, false, cond}
 use lib.ListN.{length, take, drop}
 use Rattle.serial.specs.Layout.{capacity, portOf, spareOf}
-use Rattle.runs.specs.Reachable.{Reachable}
+use Rattle.serial.specs.Reachable.{Reachable}
 use Rattle.serial_saved.specs.Saved.{savedOf, Restore, restoreOf}
 
 -- The port is written down: its nine registers as they lie, and as many bytes as wait, the first to be read first. What lies behind them in the memory

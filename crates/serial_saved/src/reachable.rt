@@ -13,7 +13,7 @@ ghost use lib.ListN.{length};
 ghost use Rattle.common.specs.Bytes.{Bytes};
 ghost use Rattle.common.specs.Lists.{some};
 ghost use Rattle.serial.specs.Layout.{capacity};
-ghost use Rattle.runs.specs.Reachable.{Marks, Reachable};
+ghost use Rattle.serial.specs.Reachable.{Marks, Reachable};
 ghost use Rattle.serial_saved.specs.Saved.{savedOf};
 ghost use Rattle.serial_saved.specs.Inside.{TransmitterRead, ReceiverRead};
 
