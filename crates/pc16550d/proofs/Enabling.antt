@@ -9,7 +9,7 @@ use Rattle.common.specs.Lists.{some}
 use Rattle.serial.specs.Interrupts.{receivedData, transmitterEmpty, isEnabled, isDue, ierStored}
 use Rattle.serial.specs.Port.{Port, IER, writeRegister}
 use Rattle.serial.specs.Port as device
-use Rattle.runs.specs.Told.{transmitter}
+use Rattle.serial.specs.Sources.{transmitter}
 use Rattle.runs.proofs.Announcing.{ier-marks, ier-raises}
 use Rattle.pc16550d.specs.Chip.{Chip, pin, writeIer}
 use Rattle.pc16550d.specs.Chip as chip

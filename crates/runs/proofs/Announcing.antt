@@ -12,7 +12,8 @@ use Rattle.common.specs.Lists.{some}
 use Rattle.serial.specs.Interrupts.{receivedData, transmitterEmpty, ierStored, isEnabled, Announced, announce}
 use Rattle.serial.specs.Port.{Register, RBR-THR, IER, DLL, DLM, addressed, Port, Out, Input, isOpen, inLoop, hasRoom, becomes, readOf, receives, writeIer, writeLine, writeRegister, writeOf, takesNone, takesSome, inputOf}
 use Rattle.runs.specs.Run.{Op, read, write, input, room, raisesOf, didInput, step, run}
-use Rattle.runs.specs.Told.{Source, receiver, transmitter, kindOf, marked, present, thrTells, tells, due, raisesBy, enablesNew, Told}
+use Rattle.serial.specs.Sources.{Source, receiver, transmitter, kindOf, marked, present}
+use Rattle.runs.specs.Told.{thrTells, tells, due, raisesBy, enablesNew, Told}
 use Rattle.runs.proofs.Rooms.{outcome, announced-marked, announced-keeps, announced-other, announced-raises}
 use Rattle.runs.proofs.Registers.{addressed-cases}
 use Rattle.runs.proofs.Effects.{read-cases}

@@ -16,7 +16,7 @@ use Rattle.serial.specs.Port.{Register, RBR-THR, IER, IIR-FCR, LCR, MCR, LSR, M
 use Rattle.runs.proofs.Registers.{isRbr, rbr-is-data}
 use Rattle.runs.specs.Run.{Op, read, write, input, room, sent, full, raisesOf, didInput, step, run}
 use Rattle.runs.specs.Book.{accepted, readsData, delivered, taken, bookOf}
-use Rattle.runs.specs.Told.{Source, receiver, transmitter, kindOf}
+use Rattle.serial.specs.Sources.{Source, receiver, transmitter, kindOf}
 
 -- ---- Announcements one after the other, under one IER: the marks after them, and how often the interrupt is raised
 

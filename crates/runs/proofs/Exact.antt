@@ -21,9 +21,10 @@ use mathlib.Core.Logic.{_↔_}
 use Rattle.runs.proofs.Effects.{run-on}
 use Rattle.runs.proofs.Reachable.{all-reachable}
 use Rattle.runs.specs.Run.{Op, read, write, input, step, run}
-use Rattle.runs.specs.Told.{Source, receiver, transmitter, kindOf}
+use Rattle.serial.specs.Sources.{Source, receiver, transmitter, kindOf}
 use Rattle.runs.proofs.Rooms.{Outcome, raised, quiet, outcome}
-use Rattle.runs.specs.Reachable.{AllOfBytes, Written, Marks, neither, onlyTransmitter, onlyReceiver, twoKinds, Reachable, Reached}
+use Rattle.serial.specs.Reachable.{Written, Marks, neither, onlyTransmitter, onlyReceiver, twoKinds, Reachable}
+use Rattle.runs.specs.Reached.{AllOfBytes, Reached}
 
 -- ---- A run that goes on
 

@@ -13,7 +13,8 @@ use Rattle.serial.specs.Modem.{isLoop}
 use Rattle.serial.specs.Port.{RBR-THR, IER, DLL, DLM, addressed, Settings, Port, withSettings, becomes, isOpen, inLoop, hasRoom, fresh, readRegister, readOf, receives, writeIer, writeLine, writeRegister, writeOf, inputOf, Input}
 use Rattle.serial.specs.Layout.{size}
 use Rattle.runs.specs.Run.{Op, read, write, input, room, step, run, sent, took}
-use Rattle.runs.specs.Told.{receiver, transmitter, enabled, marked, Untold, Hole, identified, read-one, MeetsHole, here, further}
+use Rattle.serial.specs.Sources.{receiver, transmitter, enabled, marked}
+use Rattle.runs.specs.Told.{Untold, Hole, identified, read-one, MeetsHole, here, further}
 use Rattle.runs.proofs.Rooms.{outcome, announced-marked, announced-other}
 use Rattle.runs.proofs.Registers.{addressed-cases}
 use Rattle.runs.proofs.Effects.{input-cases}

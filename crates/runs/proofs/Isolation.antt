@@ -12,7 +12,7 @@ use lib.Dec.{lit<}
 use Rattle.serial.specs.Port.{Port}
 use Rattle.serial.specs.Ring.{queue}
 use Rattle.serial.specs.Layout.{size, places, startOf, countOf, portOf}
-use Rattle.serial.proofs.Answering.{waiting-length}
+use Rattle.serial.proofs.Bounds.{memory-fits}
 use Rattle.runs.specs.Run.{Op, run}
 use Rattle.runs.specs.Storage.{placeOf, Alike}
 use Rattle.runs.proofs.Conserved.{never-more}
@@ -37,9 +37,6 @@ queue-alike places ring ring′ (suc n) start start′ h =
     next start k = omega arith
 
 -- From any bytes: never more wait than the size.
-pub memory-fits : (regs pos ring : List ℕ) → length (portOf regs pos ring .waiting) ≤ size
-memory-fits regs pos ring = omega (arith, waiting-length regs pos ring)
-
 memory-size : (regs pos ring : List ℕ) → portOf regs pos ring .size ≡ size
 unfolding portOf
 memory-size regs pos ring = refl

@@ -12,7 +12,7 @@ use Rattle.common.specs.Bits.{on}
 use Rattle.common.proofs.EveryByte.{below, same-test}
 use Rattle.serial.specs.Interrupts.{receivedData, transmitterEmpty, isEnabled, isMarked, nonePending, mark, unmark, isDue, Announced, announce}
 use Rattle.serial.specs.LineStatus.{lsrReady, lsrAfterRead}
-use Rattle.runs.specs.Told.{Source, receiver, transmitter, kindOf}
+use Rattle.serial.specs.Sources.{Source, receiver, transmitter, kindOf}
 
 -- ---- A mask of a byte sees the low byte alone, so that a law of bytes is one of all numbers
 

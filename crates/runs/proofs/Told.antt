@@ -11,7 +11,8 @@ use Rattle.serial.specs.Interrupts.{isEnabled, isMarked, Announced}
 use Rattle.serial.specs.Port.{Port, fresh}
 use Rattle.runs.specs.Run.{Op, raisesOf, raisesIn, step, run}
 use Rattle.runs.specs.Book.{accepted, bookOf}
-use Rattle.runs.specs.Told.{Source, receiver, transmitter, kindOf, enabled, marked, newly, Signals, markings, Stays, Told, now, later}
+use Rattle.serial.specs.Sources.{Source, receiver, transmitter, kindOf, enabled, marked}
+use Rattle.runs.specs.Told.{newly, Signals, markings, Stays, Told, now, later}
 use Rattle.runs.proofs.Rooms.{mark-grows, mark-new, marks, mark-counts, unmark-shrinks, none-marked, Outcome, raised, quiet, outcome, announced-marked}
 use Rattle.runs.proofs.Effects.{Announces, none, then, once, Effect, keeps, comes, reads, identifies, effect, run-on}
 

@@ -6,28 +6,10 @@ use mathlib.Core.List.{List, [], _∷_}
 use lib.ListN.{length}
 use lib.Dec.{eqb}
 use Rattle.common.specs.Lists.{some}
-use Rattle.serial.specs.Interrupts.{Kind, receivedData, transmitterEmpty, ierStored, isEnabled, isMarked}
+use Rattle.serial.specs.Interrupts.{ierStored, isEnabled}
 use Rattle.serial.specs.Port.{Port, isOpen, inLoop, hasRoom}
+use Rattle.serial.specs.Sources.{Source, receiver, transmitter, kindOf, enabled, marked, present}
 use Rattle.runs.specs.Run.{Op, read, write, input, room, raisesOf, step}
-
--- The two sources that interrupt.
-pub data Source : Type 0 where
-  receiver transmitter : Source
-
-abbrev pub kindOf : Source → Kind
-kindOf receiver = receivedData
-kindOf transmitter = transmitterEmpty
-
-abbrev pub enabled : Port → Source → Bool
-enabled p s = isEnabled (p .settings .ier) (kindOf s)
-
-abbrev pub marked : Port → Source → Bool
-marked p s = isMarked (p .iir) (kindOf s)
-
--- There is something to tell of the source: a byte waits; the transmitter is empty, which it always is.
-abbrev pub present : Port → Source → Bool
-present p receiver = some (p .waiting)
-present p transmitter = true
 
 -- ---- How often a call raises, from the port before it
 

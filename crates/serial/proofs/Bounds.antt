@@ -7,7 +7,7 @@ use Prim.Native.Nat.{ℕ, _+_, _*_, _/_, _%_, _≤_, _<_}
 use native.Mathlib.Omega.{arith}
 use lib.ListN.{length}
 use Rattle.serial.specs.Port.{Out, Input}
-use Rattle.serial.specs.Layout.{portOf, spareRegisters, freshSpareRegisters}
+use Rattle.serial.specs.Layout.{size, portOf, spareRegisters, freshSpareRegisters}
 use Rattle.serial.specs.Calls.{readWord, writeWord, inputWord, SparesKept, MakesFresh}
 use Rattle.serial.proofs.Answering.{waiting-length}
 
@@ -15,6 +15,9 @@ use Rattle.serial.proofs.Answering.{waiting-length}
 pub never-over : (regs pos ring : List ℕ) → length (portOf regs pos ring .waiting) ≤ portOf regs pos ring .size
 unfolding portOf
 never-over regs pos ring = omega (arith, waiting-length regs pos ring)
+
+pub memory-fits : (regs pos ring : List ℕ) → length (portOf regs pos ring .waiting) ≤ size
+memory-fits regs pos ring = omega (arith, waiting-length regs pos ring)
 
 -- From a fresh port on the spare registers stay 0, over every call that keeps them.
 pub spares-stay-zero : (regs pos regs′ pos′ : List ℕ) → MakesFresh regs pos → SparesKept regs pos regs′ pos′ → spareRegisters regs′ ≡ freshSpareRegisters

@@ -1,4 +1,4 @@
--- In the order to read them: the rooms of the chip, the port made of them, how it lies in memory, what a call promises.
+-- In the order to read them: the rooms of the chip, the port made of them, how it lies in memory, what a call promises, which ports runs reach.
 pub mod Interrupts
 pub mod LineStatus
 pub mod Modem
@@ -6,4 +6,6 @@ pub mod Port
 pub mod Ring
 pub mod Layout
 pub mod Calls
+pub mod Sources
+pub mod Reachable
 pub mod Inside

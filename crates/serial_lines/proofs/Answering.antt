@@ -14,7 +14,7 @@ use Rattle.serial.specs.Port.{Port, roomOf}
 use Rattle.serial.specs.Ring.{queue}
 use Rattle.serial.specs.Layout.{size, places, portOf, spareRegisters, freshSpareRegisters}
 use Rattle.serial.proofs.RingLaws.{queue-split}
-use Rattle.runs.proofs.Isolation.{memory-fits}
+use Rattle.serial.proofs.Bounds.{memory-fits}
 use Rattle.serial_saved.specs.Saved.{savedOf}
 use Rattle.serial_saved.specs.Calls.{Saves}
 use Rattle.words.specs.Hex.{byteAt, bytesOf, areBytes, countOf, Gives}

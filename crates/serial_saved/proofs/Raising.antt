@@ -9,7 +9,7 @@ use lib.ListN.{length, getD}
 use Rattle.serial.specs.Interrupts.{receivedData, transmitterEmpty}
 use Rattle.serial.specs.Layout.{portOf}
 use Rattle.serial.specs.Port.{Port}
-use Rattle.runs.specs.Told.{Source, receiver, transmitter}
+use Rattle.serial.specs.Sources.{Source, receiver, transmitter}
 use Rattle.serial_saved.specs.Inside.{Raised}
 use Rattle.serial_saved.specs.Saved.{savedOf, isTold, ifTold, raisedAgain}
 

@@ -13,11 +13,9 @@ use native.Mathlib.Omega.{arith}
 use lib.ListN.{length, take}
 use Rattle.serial.specs.Port.{Port}
 use Rattle.serial.specs.Layout.{size, portOf, spareRegisters, freshSpareRegisters}
-use Rattle.runs.specs.Run.{Op, run}
-use Rattle.runs.specs.Told.{Source, receiver, transmitter, enabled, marked}
-use Rattle.runs.specs.Reachable.{Reachable, Reached}
-use Rattle.runs.proofs.Exact.{exact}
-use Rattle.runs.proofs.Isolation.{memory-fits}
+use Rattle.serial.specs.Sources.{Source, receiver, transmitter, enabled, marked}
+use Rattle.serial.specs.Reachable.{Reachable}
+use Rattle.serial.proofs.Bounds.{memory-fits}
 use Rattle.serial_saved.specs.Saved.{savedOf, isTold, ifTold, raisedAgain, Restore, restoreOf}
 use Rattle.serial_saved.specs.Calls.{Saves, restoreWord, ReachableSaved, Restores}
 use Rattle.serial_saved.proofs.Raising.{at-most-two}
@@ -53,14 +51,6 @@ module _ {regs pos ring saved waiting regs′ pos′ ring′ : List ℕ} {r : �
       let t = one (b .reachable) in
       (λ e. b .exact .0 (t .0 (sym (parts .0) ∙ e)), λ k. parts .0 ∙ t .1 (b .exact .1 k))
 
-  -- (so it says it of a state exactly if some run of bytes from a fresh port comes to it),
-  pub reached-exactly : (r / 0x4_0000 % 2 ≡ 1) ↔ (Reached size (savedOf saved waiting) × (spareRegisters saved ≡ freshSpareRegisters))
-  reached-exactly =
-      let e = exact size (savedOf saved waiting) in (
-        λ h. let k = reachable-exactly .0 h in (e .0 (k .port), k .sparesZero),
-        λ k. reachable-exactly .1 (record { port = e .1 (k .0); sparesZero = k .1 }),
-      )
-
   -- .. and "refused" exactly where more bytes wait than there is room for. Then nothing is raised, and else each source that is told.
   pub not-refused : length waiting ≤ size → (r / 0x1_0000 % 2 ≡ 0) × (r / 0x100_0000 ≡ length (raisedAgain (savedOf saved waiting)))
   not-refused h = rw (enough saved waiting (portOf regs pos ring) h) at (parts .1)
@@ -88,7 +78,7 @@ save-after-restore {saved = saved} {waiting = waiting} h b s =
     let same : portOf _ _ _ .waiting ≡ waiting = ap (λ (p : Port). p .waiting) (brought-back b h) ∙ saved-waiting saved waiting in
     (s .registers ∙ same-registers b h, (s .number ∙ ap length same, s .bytes ∙ same))
 
--- ---- Restore after save: into whatever memory, it is never refused, and the port is the one that was saved; every run from it is the same one
+-- ---- Restore after save: into whatever memory, it is never refused, and the port is the one that was saved
 
 module _ {regs pos ring w saved w′ : List ℕ} {n : ℕ} (s : Saves regs pos ring w saved w′ n) where
   fits : length (take n w′) ≤ size
@@ -98,9 +88,8 @@ module _ {regs pos ring w saved w′ : List ℕ} {n : ℕ} (s : Saves regs pos r
     same-port : portOf regs′ pos′ ring′ ≡ portOf regs pos ring
     same-port = brought-back b fits ∙ s .holds
 
-    pub restore-after-save : (r / 0x1_0000 % 2 ≡ 0) × ((portOf regs′ pos′ ring′ ≡ portOf regs pos ring)
-        × ((os : List Op) → run (portOf regs′ pos′ ring′) os ≡ run (portOf regs pos ring) os))
-    restore-after-save = (not-refused b fits .0, (same-port, λ os. ap (λ (p : Port). run p os) same-port))
+    pub restore-after-save : (r / 0x1_0000 % 2 ≡ 0) × (portOf regs′ pos′ ring′ ≡ portOf regs pos ring)
+    restore-after-save = (not-refused b fits .0, same-port)
 
     -- A port that runs reach is one still, and the word says so.
     pub saved-reachable : Reachable size (portOf regs pos ring) → spareRegisters regs ≡ freshSpareRegisters

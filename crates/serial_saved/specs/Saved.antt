@@ -6,7 +6,7 @@ use lib.ListN.{length}
 use lib.Dec.{leb}
 use Rattle.serial.specs.Port.{Port, withReceiver}
 use Rattle.serial.specs.Layout.{portOf}
-use Rattle.runs.specs.Told.{Source, receiver, transmitter, enabled, marked}
+use Rattle.serial.specs.Sources.{Source, receiver, transmitter, enabled, marked}
 
 -- What was saved is a port too, of which more bytes may wait than there is room for.
 unfoldable pub savedOf : List ℕ → List ℕ → Port

@@ -1,25 +1,13 @@
--- The ports that runs from a fresh one reach. A restore tells these from others.
+-- The ports that runs from a fresh one reach, by what they look like. That these are exactly the ones is a theorem over runs.
 use Prim.Native.Nat.{ℕ, _<_, _≤_}
 use mathlib.Core.Path.{_≡_}
 use mathlib.Core.Bool.{true, false, cond}
-use mathlib.Core.List.{List, [], _∷_}
+use mathlib.Core.List.{List}
 use lib.ListN.{length}
 use Rattle.common.specs.Bytes.{Bytes}
 use Rattle.common.specs.Lists.{some}
-use Rattle.serial.specs.Port.{Settings, Port, fresh}
-use Rattle.runs.specs.Run.{Op, read, write, input, room, run}
-use Rattle.runs.specs.Told.{receiver, transmitter, enabled, marked}
-
--- Operations whose offsets, values and bytes are bytes.
-abbrev pub OfBytes : Op → Type 0
-OfBytes (read offset) = offset < 256
-OfBytes (write offset value) = (offset < 256) × (value < 256)
-OfBytes (input bytes) = Bytes bytes
-OfBytes room = Unit {0}
-
-abbrev pub AllOfBytes : List Op → Type 0
-AllOfBytes [] = Unit {0}
-AllOfBytes (o ∷ os) = OfBytes o × AllOfBytes os
+use Rattle.serial.specs.Port.{Settings, Port}
+use Rattle.serial.specs.Sources.{receiver, transmitter, enabled, marked}
 
 -- IER keeps four bits, the others eight.
 pub record Written (s : Settings) : Type 0 where
@@ -55,7 +43,3 @@ pub record Reachable (size : ℕ) (p : Port) : Type 0 where
   pub bytes : Bytes (p .waiting)
   pub fits : length (p .waiting) ≤ size
   pub sized : p .size ≡ size
-
--- Some run of bytes from a fresh port comes to this one.
-abbrev pub Reached : ℕ → Port → Type 0
-Reached size p = (os : List Op) × AllOfBytes os × (run (fresh size) os .port ≡ p)
