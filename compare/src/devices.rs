@@ -1,31 +1,37 @@
 //! What a set of the three devices is asked. The original and the account both implement this.
 
-/// How many interrupts a call raised.
-pub type Raised = u32;
+use crate::account::reached;
 
-/// The serial port's nine registers in the order of the `state` answer (divisor low, divisor high, IER,
-/// IIR, LCR, LSR, MCR, MSR, SCR), and the bytes that wait to be read, first in front.
-#[derive(Clone, Debug, PartialEq, Eq)]
+/// How many interrupts a call raised.
+pub type Raised = usize;
+
+/// The serial port's registers, by their places in its state. DLL and DLM are the divisor.
+pub const DLL: usize = 0;
+pub const DLM: usize = 1;
+pub const IER: usize = 2;
+pub const IIR: usize = 3;
+pub const LCR: usize = 4;
+pub const LSR: usize = 5;
+pub const MCR: usize = 6;
+pub const MSR: usize = 7;
+pub const SCR: usize = 8;
+
+/// The serial port's nine registers in the order of the `state` answer, and the bytes that wait to be
+/// read, first in front.
+#[derive(Clone, Debug, PartialEq, Eq, Hash)]
 pub struct SerialState {
     pub registers: [u8; 9],
     pub buffer: Vec<u8>,
 }
 
-#[derive(Clone, Copy, Debug, PartialEq, Eq)]
+/// The default is a fresh clock's.
+#[derive(Clone, Copy, Debug, Default, PartialEq, Eq)]
 pub struct ClockState {
     pub load: u32,
     pub offset: i64,
     pub match_: u32,
     pub mask: u32,
     pub raw: u32,
-}
-
-/// What bringing a serial port's state back came to: how often the interrupt is raised, and whether a run
-/// from a fresh port could have reached the state.
-#[derive(Clone, Copy, Debug, PartialEq, Eq)]
-pub struct Restored {
-    pub raised: Raised,
-    pub reached: bool,
 }
 
 pub trait Serial {
@@ -37,7 +43,12 @@ pub trait Serial {
     fn room(&self) -> usize;
     fn state(&self) -> SerialState;
     /// Brings a state back, or answers none if it is refused because more bytes wait than there is room for.
-    fn restore(&mut self, state: &SerialState) -> Option<Restored>;
+    fn restore(&mut self, state: &SerialState) -> Option<Raised>;
+    /// Whether a run from a fresh port could have reached the state. The original cannot tell: where it
+    /// is compared this word is the account's.
+    fn reaches(&self, state: &SerialState) -> bool {
+        reached::serial(state)
+    }
 }
 
 /// `now` is the host's time in seconds. An access answers whether it was valid.
@@ -45,8 +56,11 @@ pub trait Clock {
     fn write(&mut self, now: u64, offset: u16, data: &[u8; 4]) -> bool;
     fn read(&mut self, now: u64, offset: u16, data: &mut [u8; 4]) -> bool;
     fn state(&self) -> ClockState;
-    /// Brings a state back, and answers whether a run from a fresh clock could have reached it.
-    fn restore(&mut self, state: &ClockState) -> bool;
+    fn restore(&mut self, state: &ClockState);
+    /// As for the port.
+    fn reaches(&self, state: &ClockState) -> bool {
+        reached::clock(state)
+    }
 }
 
 pub trait I8042 {
@@ -57,11 +71,7 @@ pub trait I8042 {
 
 /// Makes fresh devices.
 pub trait Devices {
-    type Serial: Serial;
-    type Clock: Clock;
-    type I8042: I8042;
-
-    fn serial(&mut self) -> Self::Serial;
-    fn clock(&mut self) -> Self::Clock;
-    fn i8042(&mut self) -> Self::I8042;
+    fn serial(&mut self) -> Box<dyn Serial>;
+    fn clock(&mut self) -> Box<dyn Clock>;
+    fn i8042(&mut self) -> Box<dyn I8042>;
 }

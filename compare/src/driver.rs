@@ -2,29 +2,23 @@
 
 use std::io::{self, BufRead, Write};
 
-use crate::answer::Answer;
 use crate::devices::{Clock, ClockState, Devices, Serial, SerialState, I8042};
-use crate::format::{self, Device, Operation};
+use crate::format::{self, Device, Operation, Operation::*, Words};
 
-/// The device that operations speak to, until another one is started.
-pub enum Current<D: Devices> {
+/// The device that operations speak to, until another one is started. The clock has the time with it.
+enum Current {
     None,
-    Serial(D::Serial),
-    Clock { clock: D::Clock, now: u64 },
-    I8042(D::I8042),
+    Serial(Box<dyn Serial>),
+    Clock(Box<dyn Clock>, u64),
+    I8042(Box<dyn I8042>),
 }
 
-/// What was saved last, of each kind. It outlives the device that it was saved from.
-#[derive(Default)]
-struct Kept {
-    serial: Option<SerialState>,
-    clock: Option<ClockState>,
-}
-
+/// What is kept is what was saved last, of each kind. It outlives the device that it was saved from.
 pub struct Driver<D: Devices> {
     devices: D,
-    current: Current<D>,
-    kept: Kept,
+    current: Current,
+    kept_port: Option<SerialState>,
+    kept_clock: Option<ClockState>,
 }
 
 impl<D: Devices> Driver<D> {
@@ -32,223 +26,156 @@ impl<D: Devices> Driver<D> {
         Driver {
             devices,
             current: Current::None,
-            kept: Kept::default(),
+            kept_port: None,
+            kept_clock: None,
         }
     }
 
-    pub fn current(&self) -> &Current<D> {
-        &self.current
-    }
-
-    /// Forgets what was saved. No list asks for this: it is for faults.
-    pub(crate) fn forget(&mut self) {
-        self.kept = Kept::default();
-    }
-
-    /// Answers a line that is not to be passed over.
-    pub fn answer(&mut self, line: &[u8]) -> Answer {
-        match format::parse(line) {
-            Some(operation) => self.perform(&operation),
-            None => Answer::NotUnderstood,
+    /// The state of the serial port, if that is the current device.
+    pub fn port(&self) -> Option<SerialState> {
+        match &self.current {
+            Current::Serial(port) => Some(port.state()),
+            _ => None,
         }
+    }
+
+    /// The state of the clock and its time, if that is the current device.
+    pub fn clock(&self) -> Option<(ClockState, u64)> {
+        match &self.current {
+            Current::Clock(clock, now) => Some((clock.state(), *now)),
+            _ => None,
+        }
+    }
+
+    /// Answers a line that is not to be passed over. The answer ends as a line does.
+    pub fn answer(&mut self, line: &[u8]) -> Vec<u8> {
+        let operation = format::parse(line);
+        let answer = operation.and_then(|operation| self.perform(&operation));
+        let mut answer = answer.unwrap_or(Words(b"?".to_vec())).0;
+        answer.push(b'\n');
+        answer
     }
 
     /// Performs an operation, if it speaks to the current device.
-    pub fn perform(&mut self, operation: &Operation) -> Answer {
-        if let Operation::Start(device) = operation {
-            return self.start(*device);
+    fn perform(&mut self, operation: &Operation) -> Option<Words> {
+        if let Start(device) = operation {
+            self.current = match device {
+                Device::Serial => Current::Serial(self.devices.serial()),
+                Device::Clock => Current::Clock(self.devices.clock(), 0),
+                Device::I8042 => Current::I8042(self.devices.i8042()),
+            };
+            return Some(Words::start(device.word()));
         }
         match &mut self.current {
-            Current::None => Answer::NotUnderstood,
-            Current::Serial(serial) => on_serial(serial, &mut self.kept.serial, operation),
-            Current::Clock { clock, now } => on_clock(clock, now, &mut self.kept.clock, operation),
-            Current::I8042(i8042) => on_i8042(i8042, operation),
+            Current::None => None,
+            Current::Serial(port) => on_serial(&mut **port, &mut self.kept_port, operation),
+            Current::Clock(clock, now) => {
+                on_clock(&mut **clock, now, &mut self.kept_clock, operation)
+            }
+            Current::I8042(controller) => on_i8042(&mut **controller, operation),
         }
-    }
-
-    fn start(&mut self, device: Device) -> Answer {
-        self.current = match device {
-            Device::Serial => Current::Serial(self.devices.serial()),
-            Device::Clock => Current::Clock {
-                clock: self.devices.clock(),
-                now: 0,
-            },
-            Device::I8042 => Current::I8042(self.devices.i8042()),
-        };
-        Answer::Started(device)
     }
 }
 
 fn on_serial(
-    serial: &mut impl Serial,
+    port: &mut dyn Serial,
     kept: &mut Option<SerialState>,
-    operation: &Operation,
-) -> Answer {
-    match operation {
-        Operation::WriteByte { offset, value } => {
-            let (sent, raised) = serial.write(*offset, *value);
-            Answer::Wrote(sent, raised)
-        }
-        Operation::ReadByte { offset } => {
-            let (value, raised) = serial.read(*offset);
-            Answer::Read(value, raised)
-        }
-        Operation::Input(bytes) => {
-            let (taken, raised) = serial.input(bytes);
-            Answer::Taken(taken, raised)
-        }
-        Operation::Room => Answer::Room(serial.room()),
-        Operation::State => Answer::Serial(serial.state()),
-        Operation::Save => Answer::SavedSerial(kept.insert(serial.state()).clone()),
-        Operation::Restore => match kept {
-            Some(state) => Answer::RestoredSerial(serial.restore(state)),
-            None => Answer::NotUnderstood,
+    asked: &Operation,
+) -> Option<Words> {
+    Some(match asked {
+        WriteByte(offset, value) => match port.write(*offset, *value) {
+            (Some(sent), raised) => Words::start("w").hex(&[sent]).number(raised),
+            (None, raised) => Words::start("w --").number(raised),
         },
-        Operation::RestoreSerial(state) => Answer::RestoredSerial(serial.restore(state)),
-        _ => Answer::NotUnderstood,
-    }
+        ReadByte(offset) => {
+            let (value, raised) = port.read(*offset);
+            Words::start("r").hex(&[value]).number(raised)
+        }
+        Input(bytes) => match port.input(bytes) {
+            (Some(taken), raised) => Words::start("b").number(taken).number(raised),
+            (None, raised) => Words::start("b full").number(raised),
+        },
+        Room => Words::start("room").number(port.room()),
+        State => port_state("state", &port.state()),
+        Save => port_state("save", kept.insert(port.state())),
+        Restore => restore_port(port, kept.as_ref()?),
+        RestoreSerial(state) => restore_port(port, state),
+        _ => return None,
+    })
+}
+
+fn port_state(word: &str, state: &SerialState) -> Words {
+    let words = Words::start(word).registers(state);
+    words.number(state.buffer.len()).waiting(state)
+}
+
+fn restore_port(port: &mut dyn Serial, state: &SerialState) -> Words {
+    let Some(raised) = port.restore(state) else {
+        return Words::start("restore full");
+    };
+    Words::start("restore")
+        .number(raised)
+        .word(reached(port.reaches(state)))
+}
+
+fn reached(yes: bool) -> &'static str {
+    ["unreached", "reached"][usize::from(yes)]
 }
 
 fn on_clock(
-    clock: &mut impl Clock,
+    clock: &mut dyn Clock,
     now: &mut u64,
     kept: &mut Option<ClockState>,
-    operation: &Operation,
-) -> Answer {
-    match operation {
-        Operation::Now(time) => {
+    asked: &Operation,
+) -> Option<Words> {
+    let valid = |yes: bool| ["invalid", "ok"][usize::from(yes)];
+    Some(match asked {
+        Now(time) => {
             *now = *time;
-            Answer::NowSet
+            Words::start("now")
         }
-        Operation::WriteWord { offset, data } => Answer::WroteWord {
-            valid: clock.write(*now, *offset, data),
-        },
-        Operation::ReadWord { offset, data } => {
+        WriteWord(offset, data) => Words::start("w").word(valid(clock.write(*now, *offset, data))),
+        ReadWord(offset, data) => {
             let mut data = *data;
-            let valid = clock.read(*now, *offset, &mut data);
-            Answer::ReadWord { data, valid }
+            let is_valid = clock.read(*now, *offset, &mut data);
+            Words::start("r").hex(&data).word(valid(is_valid))
         }
-        Operation::State => Answer::Clock(clock.state()),
-        Operation::Save => Answer::SavedClock(*kept.insert(clock.state())),
-        Operation::Restore => match kept {
-            Some(state) => Answer::RestoredClock {
-                reached: clock.restore(state),
-            },
-            None => Answer::NotUnderstood,
-        },
-        Operation::RestoreClock(state) => Answer::RestoredClock {
-            reached: clock.restore(state),
-        },
-        _ => Answer::NotUnderstood,
-    }
+        State => Words::start("state").clock(&clock.state()),
+        Save => Words::start("save").clock(kept.insert(clock.state())),
+        Restore => restore_clock(clock, kept.as_ref()?),
+        RestoreClock(state) => restore_clock(clock, state),
+        _ => return None,
+    })
 }
 
-fn on_i8042(i8042: &mut impl I8042, operation: &Operation) -> Answer {
-    match operation {
-        Operation::WriteByte { offset, value } => Answer::WroteI8042 {
-            reset: i8042.write(*offset, *value),
-        },
-        Operation::ReadByte { offset } => Answer::ReadI8042(i8042.read(*offset)),
-        _ => Answer::NotUnderstood,
-    }
+fn restore_clock(clock: &mut dyn Clock, state: &ClockState) -> Words {
+    clock.restore(state);
+    Words::start("restore").word(reached(clock.reaches(state)))
 }
 
-/// Answers a whole list from `input` on `output`.
-pub fn serve(devices: impl Devices, mut input: impl BufRead, output: impl Write) -> io::Result<()> {
-    let mut output = io::BufWriter::with_capacity(1 << 16, output);
+fn on_i8042(controller: &mut dyn I8042, asked: &Operation) -> Option<Words> {
+    Some(match asked {
+        WriteByte(offset, value) if controller.write(*offset, *value) => Words::start("w reset"),
+        WriteByte(..) => Words::start("w --"),
+        ReadByte(offset) => Words::start("r").hex(&[controller.read(*offset)]),
+        _ => return None,
+    })
+}
+
+/// Answers a whole list from standard input on standard output.
+pub fn serve(devices: impl Devices) -> io::Result<()> {
+    let mut input = io::stdin().lock();
+    let mut output = io::BufWriter::with_capacity(1 << 16, io::stdout().lock());
     let mut driver = Driver::new(devices);
     let mut line = Vec::new();
-    let mut answer = Vec::new();
     while input.read_until(b'\n', &mut line)? > 0 {
         if line.last() == Some(&b'\n') {
             line.pop();
         }
         if !format::is_passed_over(&line) {
-            driver.answer(&line).print(&mut answer);
-            output.write_all(&answer)?;
-            answer.clear();
+            output.write_all(&driver.answer(&line))?;
         }
         line.clear();
     }
     output.flush()
-}
-
-#[cfg(test)]
-mod tests {
-    use super::*;
-    use crate::account::Account;
-
-    /// Holds the answers of one driver to the lines: `line => answer`.
-    fn answers_are(told: &[&str]) {
-        let mut driver = Driver::new(Account::default());
-        for line in told {
-            let (line, told) = line.split_once(" => ").unwrap();
-            let mut answer = Vec::new();
-            driver.answer(line.as_bytes()).print(&mut answer);
-            assert_eq!(String::from_utf8_lossy(&answer).trim_end(), told, "{line}");
-        }
-    }
-
-    #[test]
-    fn what_was_saved_outlives_its_device() {
-        answers_are(&[
-            "restore => ?",
-            "serial => serial",
-            "restore => ?",
-            "w 01 01 => w -- 0",
-            "b 6162 => b 2 1",
-            "save => save 0c 00 01 04 03 61 08 b0 00 2 6162",
-            "r 00 => r 61 0",
-            "restore => restore 1 reached",
-            "r 00 => r 61 0",
-            "clock => clock",
-            "restore => ?",
-            "i8042 => i8042",
-            "save => ?",
-            "restore => ?",
-            "serial => serial",
-            "restore => restore 1 reached",
-            "r 00 => r 61 0",
-        ]);
-    }
-
-    #[test]
-    fn the_time_is_no_part_of_a_clock() {
-        answers_are(&[
-            "clock => clock",
-            "now 1000 => now",
-            "w 0008 d0070000 => w ok",
-            "save => save 000007d0 00000000000003e8 00000000 00000000 00000000",
-            "now 5 => now",
-            "restore => restore reached",
-            "r 0000 00000000 => r ed030000 ok",
-            "clock => clock",
-            "restore => restore reached",
-            "r 0000 00000000 => r e8030000 ok",
-        ]);
-    }
-
-    #[test]
-    fn a_state_that_was_made_up_is_not_kept() {
-        answers_are(&[
-            "serial => serial",
-            "restore 00 00 00 00 00 00 00 00 55 - => restore 0 unreached",
-            "restore => ?",
-            "save => save 00 00 00 00 00 00 00 00 55 0 -",
-            "restore 00 00 00 00 00 00 00 00 66 - => restore 0 unreached",
-            "restore => restore 0 unreached",
-            "r 07 => r 55 0",
-        ]);
-    }
-
-    #[test]
-    fn a_refused_state_changes_nothing() {
-        let full = format!("restore 00 00 03 06 00 00 00 00 55 {}", "61".repeat(65));
-        answers_are(&[
-            "serial => serial",
-            "b 7a => b 1 0",
-            &format!("{full} => restore full"),
-            "state => state 0c 00 00 01 03 61 08 b0 00 1 7a",
-        ]);
-    }
 }

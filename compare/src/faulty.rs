@@ -1,176 +1,127 @@
 //! The account with one fault planted in it, to see that the judge finds it. Each device here is the
 //! account's, corrected for the worse before or after the call; and so is what drives them.
 
-use crate::account::serial::{Register, LSR_DATA_READY, RECEIVED_DATA, SIZE};
-use crate::account::{self, clock::cut, reached, Account};
-use crate::devices::{self, ClockState, Devices, Raised, Restored, SerialState};
+use crate::account::serial::{LSR_DATA_READY, RECEIVED_DATA, SIZE};
+use crate::account::{self, clock::cut, reached};
+use crate::devices::{self, ClockState, Devices, Raised, SerialState, IER, IIR, LSR, SCR};
 use crate::driver::Driver;
 use crate::format::{self, asking_lines, Device, Operation};
-
-#[derive(Clone, Copy, Debug, PartialEq, Eq)]
-pub enum Fault {
-    AcceptsByte65,
-    DataReadyStays,
-    DataReadyGoesEarly,
-    EmptyInputRaises,
-    RaisesAgain,
-    FullTakesNone,
-    IdentifyKeeps,
-    WiresSwapped,
-    SecondPortRemembers,
-    RestoreDropsByte,
-    RestoreForgetsRaise,
-    RestoreDoublesRaise,
-    RestoreAccepts65,
-    RefusalChanges,
-    ReachedWithoutByte,
-    ReachedThoughFull,
-    SumWraps,
-    ClearReadZeroes,
-    IdentityUnaligned,
-    TimeNotCut,
-    RestoreCutsOffset,
-    RestoreClearsStatus,
-    ReachedTooFar,
-    ResetsOnFf,
-    ResetsOnDataPort,
-    ReadsUpperCase,
-    FreshForgetsKept,
-    MadeUpIsKept,
-}
-use Fault::*;
 
 const SERIAL: Option<Device> = Some(Device::Serial);
 const CLOCK: Option<Device> = Some(Device::Clock);
 const I8042: Option<Device> = Some(Device::I8042);
 
 /// Each fault with the device it is in (or none, if it is in what reads lines and drives the devices), the
-/// name it is asked for by, and what is wrong.
+/// name it is asked for by, and what is wrong. A name that is misspelled below plants nothing, and the
+/// tests that look for the fault fail.
 #[rustfmt::skip]
-pub const FAULTS: [(Fault, Option<Device>, &str, &str); 28] = [
-    (AcceptsByte65, SERIAL, "accepts-byte-65", "in loopback a full buffer accepts one more byte"),
-    (DataReadyStays, SERIAL, "data-ready-stays", "LSR says that data is ready after the last byte was read"),
-    (DataReadyGoesEarly, SERIAL, "data-ready-goes-early", "LSR says that no data is ready while bytes wait"),
-    (EmptyInputRaises, SERIAL, "empty-input-raises", "a bulk input of 0 bytes raises an interrupt"),
-    (RaisesAgain, SERIAL, "raises-again", "received data is raised again though it is marked"),
-    (FullTakesNone, SERIAL, "full-takes-none", "a full buffer takes 0 bytes instead of refusing"),
-    (IdentifyKeeps, SERIAL, "identify-keeps", "reading IIR does not reset it"),
-    (WiresSwapped, SERIAL, "wires-swapped", "in loopback CTS follows DTR, and DSR follows RTS"),
-    (SecondPortRemembers, SERIAL, "second-port-remembers", "a second fresh port has a scratch register of 1"),
-    (RestoreDropsByte, SERIAL, "restore-drops-byte", "the last byte of a state is not brought back"),
-    (RestoreForgetsRaise, SERIAL, "restore-forgets-raise", "where both kinds are to be raised again, only one is"),
-    (RestoreDoublesRaise, SERIAL, "restore-doubles-raise", "received data is raised again twice"),
-    (RestoreAccepts65, SERIAL, "restore-accepts-65", "a state with 65 bytes is brought back"),
-    (RefusalChanges, SERIAL, "refusal-changes", "a state that is refused changes the scratch register"),
-    (ReachedWithoutByte, SERIAL, "reached-without-byte", "received data may be marked though no byte waits"),
-    (ReachedThoughFull, SERIAL, "reached-though-full", "received data may have been unmarked by a read though the buffer is full"),
-    (SumWraps, CLOCK, "sum-wraps", "a time that does not fit 32 bits wraps around"),
-    (ClearReadZeroes, CLOCK, "clear-read-zeroes", "a read of 0x1c writes zeros into the caller's bytes"),
-    (IdentityUnaligned, CLOCK, "identity-unaligned", "identity bytes answer at multiples of four only"),
-    (TimeNotCut, CLOCK, "time-not-cut", "the clock is set from the host's time in 64 bits"),
-    (RestoreCutsOffset, CLOCK, "restore-cuts-offset", "of an offset 33 bits are brought back"),
-    (RestoreClearsStatus, CLOCK, "restore-clears-status", "the raw status is not brought back"),
-    (ReachedTooFar, CLOCK, "reached-too-far", "a clock may be 2^32 seconds behind its load register"),
-    (ResetsOnFf, I8042, "resets-on-ff", "0xff at offset 4 resets the machine too"),
-    (ResetsOnDataPort, I8042, "resets-on-data-port", "0xfe at offset 0 resets the machine too"),
-    (ReadsUpperCase, None, "reads-upper-case", "letters of a line may be upper-case"),
-    (FreshForgetsKept, None, "fresh-forgets-kept", "a fresh device forgets what was saved"),
-    (MadeUpIsKept, None, "made-up-is-kept", "a state that a line gives is kept, too"),
+pub const FAULTS: [(Option<Device>, &str, &str); 28] = [
+    (SERIAL, "accepts-byte-65", "in loopback a full buffer accepts one more byte"),
+    (SERIAL, "data-ready-stays", "LSR says that data is ready after the last byte was read"),
+    (SERIAL, "data-ready-goes-early", "LSR says that no data is ready while bytes wait"),
+    (SERIAL, "empty-input-raises", "a bulk input of 0 bytes raises an interrupt"),
+    (SERIAL, "raises-again", "received data is raised again though it is marked"),
+    (SERIAL, "full-takes-none", "a full buffer takes 0 bytes instead of refusing"),
+    (SERIAL, "identify-keeps", "reading IIR does not reset it"),
+    (SERIAL, "wires-swapped", "in loopback CTS follows DTR, and DSR follows RTS"),
+    (SERIAL, "second-port-remembers", "a second fresh port has a scratch register of 1"),
+    (SERIAL, "restore-drops-byte", "the last byte of a state is not brought back"),
+    (SERIAL, "restore-forgets-raise", "where both kinds are to be raised again, only one is"),
+    (SERIAL, "restore-doubles-raise", "received data is raised again twice"),
+    (SERIAL, "restore-accepts-65", "a state with 65 bytes is brought back"),
+    (SERIAL, "refusal-changes", "a state that is refused changes the scratch register"),
+    (SERIAL, "reached-without-byte", "received data may be marked though no byte waits"),
+    (SERIAL, "reached-though-full", "received data may have been unmarked by a read though the buffer is full"),
+    (CLOCK, "sum-wraps", "a time that does not fit 32 bits wraps around"),
+    (CLOCK, "clear-read-zeroes", "a read of 0x1c writes zeros into the caller's bytes"),
+    (CLOCK, "identity-unaligned", "identity bytes answer at multiples of four only"),
+    (CLOCK, "time-not-cut", "the clock is set from the host's time in 64 bits"),
+    (CLOCK, "restore-cuts-offset", "of an offset 33 bits are brought back"),
+    (CLOCK, "restore-clears-status", "the raw status is not brought back"),
+    (CLOCK, "reached-too-far", "a clock may be 2^32 seconds behind its load register"),
+    (I8042, "resets-on-ff", "0xff at offset 4 resets the machine too"),
+    (I8042, "resets-on-data-port", "0xfe at offset 0 resets the machine too"),
+    (None, "reads-upper-case", "letters of a line may be upper-case"),
+    (None, "fresh-forgets-kept", "a fresh device forgets what was saved"),
+    (None, "made-up-is-kept", "a state that a line gives is kept, too"),
 ];
 
 /// Answers a whole list with a fault in it.
-pub fn answers(fault: Fault, mut list: Vec<u8>) -> Vec<u8> {
-    if fault == ReadsUpperCase {
+pub fn answers(fault: &'static str, mut list: Vec<u8>) -> Vec<u8> {
+    if fault == "reads-upper-case" {
         list.make_ascii_lowercase();
     }
-    let mut driver = Driver::new(Faulty::new(fault));
+    let fresh = || Driver::new(Faulty { fault, of: 0 });
+    let mut driver = fresh();
     let mut answers = Vec::new();
     for line in asking_lines(&list) {
-        driver.answer(line).print(&mut answers);
-        match (fault, format::parse(line)) {
-            (FreshForgetsKept, Some(Operation::Start(_))) => driver.forget(),
-            (MadeUpIsKept, Some(Operation::RestoreSerial(_) | Operation::RestoreClock(_))) => {
-                driver.perform(&Operation::Save);
-            }
-            _ => {}
+        if fault == "fresh-forgets-kept" && format::is_start(line) {
+            driver = fresh();
+        }
+        answers.extend(driver.answer(line));
+        let made_up = |o| matches!(o, Operation::RestoreSerial(_) | Operation::RestoreClock(_));
+        if fault == "made-up-is-kept" && format::parse(line).is_some_and(made_up) {
+            driver.answer(b"save");
         }
     }
     answers
 }
 
-struct Faulty {
-    fault: Fault,
-    ports_made: u32,
+/// Something of the account's, with a fault. What makes the devices has counted the ports.
+struct Faulty<T> {
+    fault: &'static str,
+    of: T,
 }
 
-impl Faulty {
-    fn new(fault: Fault) -> Self {
-        Faulty {
-            fault,
-            ports_made: 0,
+impl Devices for Faulty<usize> {
+    fn serial(&mut self) -> Box<dyn devices::Serial> {
+        let (fault, mut of) = (self.fault, account::serial::Serial::fresh(false));
+        if fault == "second-port-remembers" && self.of > 0 {
+            of.registers[SCR] = 1;
         }
+        self.of += 1;
+        Box::new(Faulty { fault, of })
+    }
+
+    fn clock(&mut self) -> Box<dyn devices::Clock> {
+        let (fault, of) = (self.fault, account::clock::Clock::default());
+        Box::new(Faulty { fault, of })
+    }
+
+    fn i8042(&mut self) -> Box<dyn devices::I8042> {
+        let (fault, of) = (self.fault, account::I8042);
+        Box::new(Faulty { fault, of })
     }
 }
 
-impl Devices for Faulty {
-    type Serial = Serial;
-    type Clock = Clock;
-    type I8042 = I8042;
-
-    fn serial(&mut self) -> Serial {
-        let mut port = Account::default().serial();
-        self.ports_made += 1;
-        if self.fault == SecondPortRemembers && self.ports_made > 1 {
-            port.set(Register::Scr, 1);
-        }
-        let fault = self.fault;
-        Serial { port, fault }
-    }
-
-    fn clock(&mut self) -> Clock {
-        let clock = Account::default().clock();
-        let fault = self.fault;
-        Clock { clock, fault }
-    }
-
-    fn i8042(&mut self) -> I8042 {
-        I8042 { fault: self.fault }
-    }
-}
-
-struct Serial {
-    port: account::serial::Serial,
-    fault: Fault,
-}
-
-impl Serial {
+impl Faulty<account::serial::Serial> {
     fn is_data(&self, offset: u8) -> bool {
-        offset == 0 && !self.port.divisor_is_open()
+        offset == 0 && !self.of.divisor_is_open()
     }
 }
 
-impl devices::Serial for Serial {
+impl devices::Serial for Faulty<account::serial::Serial> {
     fn write(&mut self, offset: u8, value: u8) -> (Option<u8>, Raised) {
-        let overflows = self.is_data(offset) && self.port.loops() && self.port.room() == 0;
-        let answer = self.port.write(offset, value);
-        if self.fault == AcceptsByte65 && overflows {
-            self.port.buffer.push_back(value);
+        let overflows = self.is_data(offset) && self.of.loops() && self.room() == 0;
+        let answer = self.of.write(offset, value);
+        if self.fault == "accepts-byte-65" && overflows {
+            self.of.buffer.push(value);
         }
         answer
     }
 
     fn read(&mut self, offset: u8) -> (u8, Raised) {
         let is_data = self.is_data(offset);
-        let lsr = self.port.get(Register::Lsr);
-        let iir = self.port.get(Register::Iir);
-        let (value, raised) = self.port.read(offset);
+        let before = self.of.registers;
+        let (mut value, raised) = self.of.read(offset);
         match self.fault {
-            DataReadyStays => self.port.set(Register::Lsr, lsr),
-            DataReadyGoesEarly if is_data => self.port.set(Register::Lsr, lsr & !LSR_DATA_READY),
-            IdentifyKeeps if offset == 2 => self.port.set(Register::Iir, iir),
-            WiresSwapped if offset == 6 && self.port.loops() => {
-                let swapped = (value & 0x10) << 1 | (value & 0x20) >> 1;
-                return (value & !0x30 | swapped, raised);
+            "data-ready-stays" => self.of.registers[LSR] = before[LSR],
+            "data-ready-goes-early" if is_data => {
+                self.of.registers[LSR] = before[LSR] & !LSR_DATA_READY
+            }
+            "identify-keeps" if offset == 2 => self.of.registers[IIR] = before[IIR],
+            "wires-swapped" if offset == 6 && self.of.loops() => {
+                value = value & !0x30 | (value & 0x10) << 1 | (value & 0x20) >> 1;
             }
             _ => {}
         }
@@ -178,65 +129,57 @@ impl devices::Serial for Serial {
     }
 
     fn input(&mut self, bytes: &[u8]) -> (Option<usize>, Raised) {
-        let (taken, raised) = self.port.input(bytes);
-        let enabled = self.port.get(Register::Ier) & 0x01 != 0;
+        let (taken, raised) = self.of.input(bytes);
+        let enabled = RECEIVED_DATA.is_enabled(self.of.registers[IER]);
         match (self.fault, taken) {
-            (EmptyInputRaises, _) if bytes.is_empty() => (taken, 1),
-            (RaisesAgain, Some(count)) if enabled && count > 0 => (taken, 1),
-            (FullTakesNone, None) => (Some(0), raised),
+            ("empty-input-raises", _) if bytes.is_empty() => (taken, 1),
+            ("raises-again", Some(count)) if enabled && count > 0 => (taken, 1),
+            ("full-takes-none", None) => (Some(0), raised),
             _ => (taken, raised),
         }
     }
 
     fn room(&self) -> usize {
-        self.port.room()
+        self.of.room()
     }
 
     fn state(&self) -> SerialState {
-        self.port.state()
+        self.of.state()
     }
 
-    fn restore(&mut self, state: &SerialState) -> Option<Restored> {
-        if self.fault == RestoreAccepts65 && state.buffer.len() == 65 {
-            let (last, first) = state.buffer.split_last()?;
-            let restored = self.port.restore(&with_buffer(state, first));
-            self.port.buffer.push_back(*last);
-            return restored.map(|restored| Restored {
-                reached: false,
-                ..restored
-            });
-        }
-        let Some(mut restored) = self.port.restore(state) else {
-            if self.fault == RefusalChanges {
-                self.port.set(Register::Scr, state.registers[8]);
+    fn restore(&mut self, state: &SerialState) -> Option<Raised> {
+        let raised = self.of.restore(state);
+        match (self.fault, raised) {
+            ("restore-drops-byte", Some(_)) => drop(self.of.buffer.pop()),
+            ("restore-forgets-raise", Some(2)) => return Some(1),
+            ("restore-doubles-raise", Some(times)) if RECEIVED_DATA.is_raised(state) => {
+                return Some(times + 1)
             }
-            return None;
-        };
-        let [_, _, ier, iir, ..] = state.registers;
-        match self.fault {
-            RestoreDropsByte => drop(self.port.buffer.pop_back()),
-            RestoreForgetsRaise => restored.raised = restored.raised.min(1),
-            RestoreDoublesRaise
-                if RECEIVED_DATA.is_enabled(ier) && RECEIVED_DATA.is_marked(iir) =>
-            {
-                restored.raised += 1;
+            ("restore-accepts-65", None) if state.buffer.len() == SIZE + 1 => {
+                let raised = self.of.restore(&with_buffer(state, &state.buffer[1..]));
+                self.of.buffer = state.buffer.clone();
+                return raised;
             }
-            ReachedWithoutByte if state.buffer.is_empty() => {
-                restored.reached |= reached::serial(&without_received_data(state));
-            }
-            ReachedThoughFull if state.buffer.len() == SIZE => {
-                restored.reached |= reached::serial(&with_buffer(state, &state.buffer[1..]));
-            }
+            ("refusal-changes", None) => self.of.registers[SCR] = state.registers[SCR],
             _ => {}
         }
-        Some(restored)
+        raised
+    }
+
+    fn reaches(&self, state: &SerialState) -> bool {
+        let other = match (self.fault, state.buffer.len()) {
+            ("reached-without-byte", 0) => without_received_data(state),
+            ("reached-though-full", SIZE) => with_buffer(state, &state.buffer[1..]),
+            _ => state.clone(),
+        };
+        reached::serial(state) || reached::serial(&other)
     }
 }
 
 /// The same state, but that received data is not marked.
 fn without_received_data(state: &SerialState) -> SerialState {
     let mut other = state.clone();
-    let iir = &mut other.registers[Register::Iir as usize];
+    let iir = &mut other.registers[IIR];
     *iir = match *iir {
         0x04 => 0x01,
         0x06 => 0x02,
@@ -246,75 +189,63 @@ fn without_received_data(state: &SerialState) -> SerialState {
 }
 
 fn with_buffer(state: &SerialState, buffer: &[u8]) -> SerialState {
-    SerialState {
-        registers: state.registers,
-        buffer: buffer.to_vec(),
-    }
+    let (registers, buffer) = (state.registers, buffer.to_vec());
+    SerialState { registers, buffer }
 }
 
-struct Clock {
-    clock: account::clock::Clock,
-    fault: Fault,
-}
-
-impl devices::Clock for Clock {
+impl devices::Clock for Faulty<account::clock::Clock> {
     fn write(&mut self, now: u64, offset: u16, data: &[u8; 4]) -> bool {
-        let valid = self.clock.write(now, offset, data);
-        if self.fault == TimeNotCut && offset == 0x08 {
+        let valid = self.of.write(now, offset, data);
+        if self.fault == "time-not-cut" && offset == 0x08 {
             let value = i64::from(u32::from_le_bytes(*data));
-            self.clock.offset = value.wrapping_sub(now as i64);
+            self.of.0.offset = value.wrapping_sub(now as i64);
         }
         valid
     }
 
     fn read(&mut self, now: u64, offset: u16, data: &mut [u8; 4]) -> bool {
-        let valid = self.clock.read(now, offset, data);
-        match self.fault {
-            SumWraps if offset == 0x00 => {
-                let sum = i64::from(cut(now)).wrapping_add(self.clock.offset);
+        let valid = self.of.read(now, offset, data);
+        match (self.fault, offset) {
+            ("sum-wraps", 0x00) => {
+                let sum = i64::from(cut(now)).wrapping_add(self.of.0.offset);
                 *data = (sum as u32).to_le_bytes();
             }
-            ClearReadZeroes if offset == 0x1c => *data = [0; 4],
-            IdentityUnaligned if offset > 0x1c && offset % 4 != 0 => return false,
+            ("clear-read-zeroes", 0x1c) => *data = [0; 4],
+            ("identity-unaligned", 0x1d..) if offset & 3 != 0 => return false,
             _ => {}
         }
         valid
     }
 
     fn state(&self) -> ClockState {
-        self.clock.state()
+        self.of.state()
     }
 
-    fn restore(&mut self, state: &ClockState) -> bool {
-        let mut brought = *state;
+    fn restore(&mut self, state: &ClockState) {
+        self.of.restore(state);
         match self.fault {
-            RestoreCutsOffset => brought.offset = brought.offset << 31 >> 31,
-            RestoreClearsStatus => brought.raw = 0,
+            "restore-cuts-offset" => self.of.0.offset = state.offset << 31 >> 31,
+            "restore-clears-status" => self.of.0.raw = 0,
             _ => {}
         }
-        self.clock.restore(&brought);
-        let later = ClockState {
-            offset: state.offset.saturating_add(1),
-            ..*state
-        };
-        reached::clock(state) || self.fault == ReachedTooFar && reached::clock(&later)
+    }
+
+    fn reaches(&self, state: &ClockState) -> bool {
+        let offset = state.offset.saturating_add(1);
+        let later = ClockState { offset, ..*state };
+        reached::clock(state) || self.fault == "reached-too-far" && reached::clock(&later)
     }
 }
 
-struct I8042 {
-    fault: Fault,
-}
-
-impl devices::I8042 for I8042 {
+impl devices::I8042 for Faulty<account::I8042> {
     fn write(&mut self, offset: u8, value: u8) -> bool {
-        match self.fault {
-            ResetsOnFf if (offset, value) == (4, 0xff) => true,
-            ResetsOnDataPort if (offset, value) == (0, 0xfe) => true,
-            _ => account::i8042::I8042.write(offset, value),
+        match (self.fault, offset, value) {
+            ("resets-on-ff", 4, 0xff) | ("resets-on-data-port", 0, 0xfe) => true,
+            _ => self.of.write(offset, value),
         }
     }
 
     fn read(&mut self, offset: u8) -> u8 {
-        account::i8042::I8042.read(offset)
+        self.of.read(offset)
     }
 }

@@ -1,6 +1,4 @@
-//! The replay format's questions: a line of a list, and the operation it asks for.
-
-use std::fmt;
+//! The replay format: a line of a list and the operation it asks for, and how lines are written.
 
 use crate::devices::{ClockState, SerialState};
 
@@ -28,12 +26,12 @@ impl Device {
 
 /// What a line asks for. Which device it speaks to follows from its shape, but for `State`, `Save` and
 /// `Restore` of what was saved last, which two devices have, and for single bytes, which are the serial
-/// port's or the reset controller's.
+/// port's or the reset controller's. An offset comes first, then what is written or held there.
 #[derive(Clone, Debug, PartialEq, Eq)]
 pub enum Operation {
     Start(Device),
-    WriteByte { offset: u8, value: u8 },
-    ReadByte { offset: u8 },
+    WriteByte(u8, u8),
+    ReadByte(u8),
     Input(Vec<u8>),
     Room,
     State,
@@ -42,19 +40,14 @@ pub enum Operation {
     RestoreSerial(SerialState),
     RestoreClock(ClockState),
     Now(u64),
-    WriteWord { offset: u16, data: [u8; 4] },
-    ReadWord { offset: u16, data: [u8; 4] },
+    WriteWord(u16, [u8; 4]),
+    ReadWord(u16, [u8; 4]),
 }
+use Operation::*;
 
 impl Operation {
-    pub fn is_about_saved_states(&self) -> bool {
-        matches!(
-            self,
-            Operation::Save
-                | Operation::Restore
-                | Operation::RestoreSerial(_)
-                | Operation::RestoreClock(_)
-        )
+    pub fn brings_back(&self) -> bool {
+        matches!(self, Restore | RestoreSerial(_) | RestoreClock(_))
     }
 }
 
@@ -70,123 +63,54 @@ pub fn asking_lines(list: &[u8]) -> impl Iterator<Item = &[u8]> {
         .filter(|line| !is_passed_over(line))
 }
 
+/// Whether a line starts a fresh device.
+pub fn is_start(line: &[u8]) -> bool {
+    matches!(parse(line), Some(Start(_)))
+}
+
 /// The operation that a line asks for, or none if the line is malformed.
 pub fn parse(line: &[u8]) -> Option<Operation> {
     if line.len() > LONGEST_LINE {
         return None;
     }
-    let mut words = line.split(|&byte| byte == b' ');
-    let first = words.next()?;
-    if first == b"restore" {
-        return restore(&words.collect::<Vec<_>>());
+    let mut words = [&line[..0]; 11];
+    let mut count = 0;
+    for word in line.split(|&byte| byte == b' ') {
+        *words.get_mut(count)? = word;
+        count += 1;
     }
-    let sentence = (first, words.next(), words.next());
-    if words.next().is_some() {
-        return None;
-    }
-    let operation = match sentence {
-        (b"serial", None, None) => Operation::Start(Device::Serial),
-        (b"clock", None, None) => Operation::Start(Device::Clock),
-        (b"i8042", None, None) => Operation::Start(Device::I8042),
-        (b"room", None, None) => Operation::Room,
-        (b"state", None, None) => Operation::State,
-        (b"save", None, None) => Operation::Save,
-        (b"now", Some(time), None) => Operation::Now(decimal(time)?),
-        (b"b", None, None) => Operation::Input(Vec::new()),
-        (b"b", Some(digits), None) => Operation::Input(some_bytes(digits)?),
-        (b"r", Some(offset), None) => Operation::ReadByte {
-            offset: byte(offset)?,
-        },
-        (b"r", Some(offset), Some(data)) => Operation::ReadWord {
-            offset: u16::from_be_bytes(bytes(offset)?),
-            data: bytes(data)?,
-        },
-        (b"w", Some(offset), Some(value)) if offset.len() == 2 => Operation::WriteByte {
-            offset: byte(offset)?,
-            value: byte(value)?,
-        },
-        (b"w", Some(offset), Some(data)) => Operation::WriteWord {
-            offset: u16::from_be_bytes(bytes(offset)?),
-            data: bytes(data)?,
-        },
-        _ => return None,
-    };
-    Some(operation)
-}
-
-/// The operation that `restore` with these words asks for.
-fn restore(words: &[&[u8]]) -> Option<Operation> {
-    let operation = match words {
-        [] => Operation::Restore,
-        [load, offset, match_, mask, raw] => Operation::RestoreClock(ClockState {
+    let operation = match words[..count] {
+        [b"serial"] => Start(Device::Serial),
+        [b"clock"] => Start(Device::Clock),
+        [b"i8042"] => Start(Device::I8042),
+        [b"room"] => Room,
+        [b"state"] => State,
+        [b"save"] => Save,
+        [b"now", time] => Now(decimal(time)?),
+        [b"b"] => Input(Vec::new()),
+        [b"b", digits] => Input(some_bytes(digits)?),
+        [b"r", offset] => ReadByte(byte(offset)?),
+        [b"r", offset, data] => ReadWord(u16::from_be_bytes(bytes(offset)?), bytes(data)?),
+        [b"w", offset, value] if offset.len() == 2 => WriteByte(byte(offset)?, byte(value)?),
+        [b"w", offset, data] => WriteWord(u16::from_be_bytes(bytes(offset)?), bytes(data)?),
+        [b"restore"] => Restore,
+        [b"restore", load, offset, match_, mask, raw] => RestoreClock(ClockState {
             load: u32::from_be_bytes(bytes(load)?),
             offset: i64::from_be_bytes(bytes(offset)?),
             match_: u32::from_be_bytes(bytes(match_)?),
             mask: u32::from_be_bytes(bytes(mask)?),
             raw: u32::from_be_bytes(bytes(raw)?),
         }),
-        [words @ .., waiting] => Operation::RestoreSerial(SerialState {
-            registers: registers(words)?,
-            buffer: match *waiting {
+        [b"restore", ref registers @ .., waiting] => RestoreSerial(SerialState {
+            registers: each_a_byte(registers)?,
+            buffer: match waiting {
                 b"-" => Vec::new(),
                 digits => some_bytes(digits)?,
             },
         }),
+        _ => return None,
     };
     Some(operation)
-}
-
-/// Whether a line starts a fresh device.
-pub fn is_start(line: &[u8]) -> bool {
-    matches!(parse(line), Some(Operation::Start(_)))
-}
-
-/// The line that asks for an operation: what `parse` reads back.
-impl fmt::Display for Operation {
-    fn fmt(&self, out: &mut fmt::Formatter) -> fmt::Result {
-        match self {
-            Operation::Start(device) => out.write_str(device.word()),
-            Operation::WriteByte { offset, value } => write!(out, "w {offset:02x} {value:02x}"),
-            Operation::ReadByte { offset } => write!(out, "r {offset:02x}"),
-            Operation::Input(input) if input.is_empty() => out.write_str("b"),
-            Operation::Input(input) => {
-                out.write_str("b ")?;
-                hex(out, input)
-            }
-            Operation::Room => out.write_str("room"),
-            Operation::State => out.write_str("state"),
-            Operation::Save => out.write_str("save"),
-            Operation::Restore => out.write_str("restore"),
-            Operation::RestoreSerial(state) => {
-                out.write_str("restore ")?;
-                for register in state.registers {
-                    write!(out, "{register:02x} ")?;
-                }
-                match &state.buffer[..] {
-                    [] => out.write_str("-"),
-                    waiting => hex(out, waiting),
-                }
-            }
-            Operation::RestoreClock(state) => write!(
-                out,
-                "restore {:08x} {:016x} {:08x} {:08x} {:08x}",
-                state.load, state.offset, state.match_, state.mask, state.raw
-            ),
-            Operation::Now(time) => write!(out, "now {time}"),
-            Operation::WriteWord { offset, data } => {
-                write!(out, "w {offset:04x} ")?;
-                hex(out, data)
-            }
-            Operation::ReadWord { offset, data } => {
-                write!(out, "r {offset:04x} ")?;
-                hex(out, data)
-            }
-        }
-    }
-}
-
-fn hex(out: &mut fmt::Formatter, bytes: &[u8]) -> fmt::Result {
-    bytes.iter().try_for_each(|byte| write!(out, "{byte:02x}"))
 }
 
 /// Exactly one digit, lower-case.
@@ -208,97 +132,123 @@ fn byte(digits: &[u8]) -> Option<u8> {
 
 /// Exactly two digits for each of N bytes, in memory order.
 fn bytes<const N: usize>(digits: &[u8]) -> Option<[u8; N]> {
-    if digits.len() != 2 * N {
-        return None;
-    }
     let mut bytes = [0; N];
     for (target, pair) in bytes.iter_mut().zip(digits.chunks(2)) {
         *target = byte(pair)?;
     }
-    Some(bytes)
+    (digits.len() == 2 * N).then_some(bytes)
 }
 
 /// Nine bytes, each a word of its own.
-fn registers(words: &[&[u8]]) -> Option<[u8; 9]> {
+fn each_a_byte(words: &[&[u8]]) -> Option<[u8; 9]> {
     let values: Option<Vec<u8>> = words.iter().map(|digits| byte(digits)).collect();
     values?.try_into().ok()
 }
 
 /// One byte or more. (An odd number of digits leaves a last chunk of one, which is no byte.)
 fn some_bytes(digits: &[u8]) -> Option<Vec<u8>> {
-    if digits.is_empty() {
-        return None;
-    }
-    digits.chunks(2).map(byte).collect()
+    let values: Option<Vec<u8>> = digits.chunks(2).map(byte).collect();
+    values.filter(|values| !values.is_empty())
 }
 
 /// One decimal digit or more, leading zeros allowed, for a number below 2^64.
 fn decimal(digits: &[u8]) -> Option<u64> {
-    if digits.is_empty() {
+    if !digits.iter().all(u8::is_ascii_digit) {
         return None;
     }
-    digits.iter().try_fold(0u64, |number, character| {
-        if !character.is_ascii_digit() {
-            return None;
+    std::str::from_utf8(digits).ok()?.parse().ok()
+}
+
+/// A line that is being written: words with a space between. By hand and not through std::fmt: a list
+/// has millions of lines.
+pub struct Words(pub Vec<u8>);
+
+impl Words {
+    pub fn start(word: &str) -> Self {
+        Words(Vec::with_capacity(64)).word(word)
+    }
+
+    pub fn word(mut self, word: &str) -> Self {
+        if !self.0.is_empty() {
+            self.0.push(b' ');
         }
-        number
-            .checked_mul(10)?
-            .checked_add(u64::from(character - b'0'))
-    })
+        self.0.extend_from_slice(word.as_bytes());
+        self
+    }
+
+    pub fn number(self, number: usize) -> Self {
+        match number {
+            0 => self.word("0"),
+            1 => self.word("1"),
+            _ => self.word(&number.to_string()),
+        }
+    }
+
+    pub fn hex(self, bytes: &[u8]) -> Self {
+        const DIGITS: &[u8; 16] = b"0123456789abcdef";
+        let mut words = self.word("");
+        words.0.reserve(2 * bytes.len());
+        for byte in bytes {
+            words
+                .0
+                .extend([byte >> 4, byte & 0x0f].map(|digit| DIGITS[usize::from(digit)]));
+        }
+        words
+    }
+
+    pub fn registers(self, state: &SerialState) -> Self {
+        let registers = state.registers.iter();
+        registers.fold(self, |words, register| words.hex(&[*register]))
+    }
+
+    pub fn waiting(self, state: &SerialState) -> Self {
+        match &state.buffer[..] {
+            [] => self.word("-"),
+            buffer => self.hex(buffer),
+        }
+    }
+
+    pub fn clock(self, state: &ClockState) -> Self {
+        let words = self.hex(&state.load.to_be_bytes());
+        let words = words.hex(&state.offset.to_be_bytes());
+        let registers = [state.match_, state.mask, state.raw];
+        registers
+            .iter()
+            .fold(words, |words, register| words.hex(&register.to_be_bytes()))
+    }
 }
 
 #[cfg(test)]
 mod tests {
     use super::*;
+    use crate::generate::format_cases::WELL_FORMED;
+    use crate::generate::malformed;
 
     #[test]
-    fn every_form_is_read_and_printed_back() {
-        let lines = [
-            "serial",
-            "clock",
-            "i8042",
-            "w 04 fe",
-            "r ff",
-            "b",
-            "b 00",
-            "b 616263",
-            "room",
-            "state",
-            "save",
-            "restore",
-            "restore 0c 00 01 04 03 61 08 b0 7f 6263",
-            "restore ff ff ff ff ff ff ff ff ff -",
-            "restore 00000005 fffffffffffffc18 80000000 00000001 ffffffff",
-            "now 0",
-            "now 18446744073709551615",
-            "w 0008 05000000",
-            "r ffff aabbccdd",
-        ];
-        for line in lines {
-            let operation = parse(line.as_bytes()).unwrap_or_else(|| panic!("not read: {line}"));
-            assert_eq!(operation.to_string(), line);
+    fn well_formed_lines_are_read_and_malformed_ones_are_not() {
+        for line in WELL_FORMED.lines() {
+            assert!(parse(line.as_bytes()).is_some(), "{line}");
+        }
+        for line in malformed::LINES.iter().chain(malformed::SAVES) {
+            assert_eq!(parse(line), None, "{}", line.escape_ascii());
         }
     }
 
     #[test]
-    fn a_word_is_four_bytes_in_memory_order() {
-        let expected = Operation::WriteWord {
-            offset: 0x0102,
-            data: [0xaa, 0xbb, 0xcc, 0xdd],
-        };
-        assert_eq!(parse(b"w 0102 aabbccdd"), Some(expected));
-    }
-
-    #[test]
-    fn a_state_is_read_in_the_order_of_its_answer() {
-        let serial = SerialState {
+    fn a_line_is_read_in_the_order_of_its_words() {
+        let data = [0xaa, 0xbb, 0xcc, 0xdd];
+        assert_eq!(parse(b"w 0102 aabbccdd"), Some(WriteWord(0x0102, data)));
+        assert_eq!(parse(b"w 01 02"), Some(WriteByte(1, 2)));
+        assert_eq!(parse(b"b 0a0b"), Some(Input(vec![0x0a, 0x0b])));
+        assert_eq!(parse(b"now 0018446744073709551615"), Some(Now(u64::MAX)));
+        let port = SerialState {
             registers: [1, 2, 3, 4, 5, 6, 7, 8, 9],
             buffer: vec![0x0a, 0x0b],
         };
-        assert_eq!(
-            parse(b"restore 01 02 03 04 05 06 07 08 09 0a0b"),
-            Some(Operation::RestoreSerial(serial))
-        );
+        let line = b"restore 01 02 03 04 05 06 07 08 09 0a0b";
+        let written = Words::start("restore").registers(&port).waiting(&port);
+        assert_eq!(written.0, line);
+        assert_eq!(parse(line), Some(RestoreSerial(port)));
         let clock = ClockState {
             load: 1,
             offset: -2,
@@ -306,46 +256,29 @@ mod tests {
             mask: 4,
             raw: 5,
         };
-        assert_eq!(
-            parse(b"restore 00000001 fffffffffffffffe 00000003 00000004 00000005"),
-            Some(Operation::RestoreClock(clock))
-        );
-    }
-
-    #[test]
-    fn a_decimal_may_have_leading_zeros() {
-        assert_eq!(parse(b"now 007"), Some(Operation::Now(7)));
-        let zeros = format!("now {}1", "0".repeat(100));
-        assert_eq!(parse(zeros.as_bytes()), Some(Operation::Now(1)));
-    }
-
-    #[test]
-    fn malformed_lines_are_not_read() {
-        use crate::generate::malformed::{LINES, SAVES};
-        for line in LINES.iter().chain(SAVES) {
-            assert_eq!(parse(line), None, "{:?}", String::from_utf8_lossy(line));
-        }
+        let line = b"restore 00000001 fffffffffffffffe 00000003 00000004 00000005";
+        assert_eq!(Words::start("restore").clock(&clock).0, line);
+        assert_eq!(parse(line), Some(RestoreClock(clock)));
     }
 
     #[test]
     fn the_longest_line_is_8192_bytes() {
-        let line = |length: usize| format!("b {}", "5".repeat(length - 2));
-        assert!(parse(line(8192).as_bytes()).is_some());
-        assert!(parse(line(8194).as_bytes()).is_none());
-        // 8193 would be an odd number of digits: this one is too long for its zeros alone.
-        let now = |length: usize| format!("now {}", "0".repeat(length - 4));
-        assert!(parse(now(8192).as_bytes()).is_some());
-        assert!(parse(now(8193).as_bytes()).is_none());
+        for (start, padding) in [("b ", "55"), ("now ", "0")] {
+            let is_read = |length: usize| {
+                let padding = padding.repeat((length - start.len()) / padding.len());
+                parse(format!("{start}{padding}").as_bytes()).is_some()
+            };
+            assert!(is_read(8192));
+            assert!(!is_read(8192 + padding.len()));
+        }
     }
 
     #[test]
     fn empty_lines_and_comments_get_no_answer() {
-        let list = b"\n# a comment\nserial\n\n #\n#\nroom";
-        let asking: Vec<&[u8]> = asking_lines(list).collect();
+        let long = format!("#{}\n", "x".repeat(10_000));
+        let list = format!("\n# a comment\nserial\n\n{long} #\n#\nroom");
+        let asking: Vec<&[u8]> = asking_lines(list.as_bytes()).collect();
         assert_eq!(asking, [&b"serial"[..], b" #", b"room"]);
-        assert!(is_passed_over(
-            format!("#{}", "x".repeat(10_000)).as_bytes()
-        ));
         assert_eq!(asking_lines(b"").count(), 0);
     }
 }

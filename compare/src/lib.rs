@@ -1,18 +1,16 @@
 //! The judge: says whether two sets of devices answer a list of accesses alike.
 //!
-//! Lists and answers are in the replay format (`format`, `answer`). A set of devices is anything that
-//! implements `devices::Devices`; `driver` drives one through a list. `account` is the set written
-//! down from the account of what vm-superio 0.8.2 does, `faulty` is the account with one fault planted
-//! in it. `generate` makes lists, `answerer` runs a program on one, `difference` and `shrink` find
-//! where two programs differ and the shortest run that shows it.
+//! Lists and answers are in the replay format (`format`). A set of devices is anything that implements
+//! `devices::Devices`; `driver` drives one through a list. `account` is the set written down from the
+//! account of what vm-superio 0.8.2 does, `faulty` is the account with one fault planted in it.
+//! `generate` makes lists, `answerer` runs a program on one, `difference` and `shrink` find where two
+//! programs differ and the shortest run that shows it.
 
 pub mod account;
-pub mod answer;
 pub mod answerer;
 pub mod command_line;
 pub mod devices;
 pub mod difference;
-pub mod domain;
 pub mod driver;
 pub mod faulty;
 pub mod format;

@@ -3,24 +3,15 @@
 
 use std::fs;
 use std::os::unix::fs::PermissionsExt;
-use std::path::PathBuf;
 use std::process::{Command, Output};
 use std::time::Duration;
 
 use judge::answerer::{tools, Answerer};
-use judge::difference::{Difference, Pair, Verdict};
+use judge::difference::{Difference, Pair};
 use judge::faulty::FAULTS;
 use judge::format::{asking_lines, Device};
 use judge::generate::numbers::Numbers;
 use judge::generate::{exhaustive, format_cases, random, Options};
-
-fn everything() -> Options {
-    Options {
-        devices: Device::ALL.to_vec(),
-        quiet_enable: false,
-        saves: true,
-    }
-}
 
 /// A file of its own for a test, with this text in it.
 fn file(name: &str, text: &[u8]) -> String {
@@ -44,7 +35,7 @@ fn script(name: &str, text: &str) -> String {
 }
 
 fn compare(arguments: &[&str]) -> Output {
-    let program: PathBuf = tools().unwrap().join("compare");
+    let program = tools().unwrap().join("compare");
     Command::new(program).args(arguments).output().unwrap()
 }
 
@@ -53,16 +44,10 @@ fn status(output: &Output) -> i32 {
 }
 
 fn difference(left: &str, right: &str, list: &[u8]) -> Option<Difference> {
-    let answerer = |name: &str| Answerer::named(name, &tools().unwrap()).unwrap();
-    let pair = Pair {
-        left: answerer(left),
-        right: answerer(right),
-        limit: Duration::from_secs(60),
-    };
-    match pair.compare(list).unwrap() {
-        Verdict::Agree(_) => None,
-        Verdict::Differ(difference) => Some(difference),
-    }
+    let [left, right] = [left, right].map(|name| Answerer::named(name).unwrap());
+    let limit = Duration::from_secs(60);
+    let pair = Pair { left, right, limit };
+    pair.compare(list).unwrap()
 }
 
 /// Every planted fault can be shown in this many lines.
@@ -71,14 +56,14 @@ const SHORT: usize = 6;
 fn is_found_in(list: &[u8], fault: &str) {
     let found = difference("account", &format!("faulty {fault}"), list);
     let found = found.unwrap_or_else(|| panic!("{fault} is not found"));
-    assert!(found.len() <= SHORT, "{fault} in\n{found}");
+    assert!(found.length <= SHORT, "{fault} in\n{}", found.shown);
 }
 
 #[test]
 fn a_random_list_finds_every_planted_fault() {
-    let list = random::list(&everything(), 30_000, 1);
+    let list = random::list(&Options::default(), 30_000, 1);
     assert!(difference("account", "account", &list).is_none());
-    for (_, _, fault, _) in FAULTS {
+    for (_, fault, _) in FAULTS {
         is_found_in(&list, fault);
     }
 }
@@ -86,12 +71,12 @@ fn a_random_list_finds_every_planted_fault() {
 #[test]
 fn the_exhaustive_lists_find_every_planted_fault_of_their_device() {
     for device in Device::ALL {
+        let devices = vec![device];
         let list = exhaustive::list(&Options {
-            devices: vec![device],
-            quiet_enable: false,
-            saves: true,
+            devices,
+            ..Options::default()
         });
-        for (_, faulty_device, fault, _) in FAULTS {
+        for (faulty_device, fault, _) in FAULTS {
             if faulty_device == Some(device) {
                 is_found_in(&list, fault);
             }
@@ -101,9 +86,9 @@ fn the_exhaustive_lists_find_every_planted_fault_of_their_device() {
 
 #[test]
 fn the_formats_cases_find_a_fault_of_reading() {
-    let list = format_cases::list(&everything());
+    let list = format_cases::list(&Options::default());
     let found = difference("account", "faulty reads-upper-case", &list).unwrap();
-    assert_eq!(found.len(), 1, "{found}");
+    assert_eq!(found.length, 1, "{}", found.shown);
 }
 
 #[test]
@@ -117,9 +102,8 @@ fn a_difference_is_shown_with_both_answers() {
     let expected = format!(
         "differ: account and faulty empty-input-raises, first at line 6 of {list}
 the shortest run found that shows it:
-  asked   account  faulty empty-input-raises
-  serial  serial   serial
-  b       b 0 0    b 0 1                      <-
+  serial => serial
+  b => b 0 0, but b 0 1 by faulty empty-input-raises
 "
     );
     assert_eq!(String::from_utf8_lossy(&output.stdout), expected);
@@ -127,7 +111,7 @@ the shortest run found that shows it:
 
 #[test]
 fn a_single_changed_byte_is_found() {
-    let list = random::list(&everything(), 300, 5);
+    let list = random::list(&Options::default(), 300, 5);
     let list_file = file("byte.list", &list);
     let account = tools().unwrap().join("account");
     let answers = Command::new(account)
@@ -144,12 +128,8 @@ fn a_single_changed_byte_is_found() {
         let output = compare(&[&format!("recorded:{record}"), "account", &list_file]);
         // An ending that is lost, or one too many, is another number of answers: no comparison at all.
         let lines = |text: &[u8]| text.iter().filter(|&&byte| byte == b'\n').count();
-        let expected = if lines(&changed) == lines(&answers) {
-            1
-        } else {
-            2
-        };
-        assert_eq!(status(&output), expected, "byte {place}");
+        let as_many = lines(&changed) == lines(&answers);
+        assert_eq!(status(&output), if as_many { 1 } else { 2 }, "byte {place}");
     }
     let record = file("byte.answers", &answers);
     let output = compare(&[&format!("recorded:{record}"), "account", &list_file]);
@@ -169,24 +149,32 @@ fn trouble(answerer: &str, list: &str) -> String {
 fn trouble_is_not_taken_for_agreement() {
     let list = file("trouble.list", b"serial\nroom\nstate\n");
     assert!(trouble("account", "no/such/list").contains("no/such/list: "));
-    assert!(trouble("no-such-program", &list).contains("cannot be run"));
-    assert!(trouble("recorded:no-such-record", &list).contains("no-such-record: "));
-    assert!(trouble("", &list).contains("has no name"));
-    assert!(trouble("false", &list).contains("died"));
-    assert!(trouble("true", &list).contains("0 answers to 3 lines"));
-    assert!(trouble("sleep 60", &list).contains("did not end"));
-    assert!(trouble("yes", &list).contains("without end"));
-
-    let dies = script("dies", "head -n 1 | account; exit 3");
-    assert!(trouble(&dies, &list).contains("after 1 answers; none to `room`"));
-    let few = script("few", "account | head -n 2");
-    assert!(trouble(&few, &list).contains("2 answers to 3 lines; none to `state`"));
-    let many = script("many", "account; echo ?");
-    assert!(trouble(&many, &list).contains("4 answers to 3 lines"));
-    let unended = script("unended", "account | head -c -1");
-    assert!(trouble(&unended, &list).contains("no line ending"));
-    let lingers = script("lingers", "account; exec >&-; exec sleep 60");
-    assert!(trouble(&lingers, &list).contains("did not end"));
+    for (answerer, why) in [
+        ("no-such-program", "cannot be run"),
+        ("recorded:no-such-record", "no-such-record: "),
+        ("", "has no name"),
+        ("false", "died"),
+        ("true", "0 answers to 3 lines"),
+        ("sleep 60", "did not end"),
+        ("yes", "without end"),
+        (
+            &script("dies", "head -n 1 | account; exit 3"),
+            "after 1 answers; none to `room`",
+        ),
+        (
+            &script("few", "account | head -n 2"),
+            "2 answers to 3 lines; none to `state`",
+        ),
+        (&script("many", "account; echo ?"), "4 answers to 3 lines"),
+        (&script("unended", "account | head -c -1"), "no line ending"),
+        (
+            &script("lingers", "account; exec >&-; exec sleep 60"),
+            "did not end",
+        ),
+    ] {
+        let said = trouble(answerer, &list);
+        assert!(said.contains(why), "{answerer}: {said}");
+    }
 }
 
 #[test]
@@ -210,12 +198,9 @@ fn an_answerer_that_changes_its_mind_is_found_out() {
             "if [ -s '{asked}' ]; then account; else echo x >> '{asked}'; account | tr 6 7; fi"
         ),
     );
-    let found = difference("account", &wavers, list).unwrap();
-    assert!(
-        found.to_string().contains("asked again they agree"),
-        "{found}"
-    );
-    assert!(found.to_string().contains("room 74"), "{found}");
+    let shown = difference("account", &wavers, list).unwrap().shown;
+    assert!(shown.contains("asked again they agree"), "{shown}");
+    assert!(shown.contains("room 74"), "{shown}");
 }
 
 #[test]

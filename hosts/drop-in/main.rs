@@ -1,27 +1,30 @@
-//! Drives vm-superio and this crate through the same lists, by the same monitor, with the same faults of the host,
+//! Drives vm-superio and this crate through the same lists, by the judge's monitor, with the same faults of the host,
 //! and compares what each call returns and what it does to the host, in order.
 
+#[path = "../../compare/src/original/host.rs"]
 mod host;
 
 mod original {
-    use vm_superio as devices;
-    include!("monitor.rs");
+    use vm_superio as api;
+    include!("../../compare/src/original/monitor.rs");
+    include!("clock_events.rs");
 }
 
 mod ours {
-    use serialpost as devices;
-    include!("monitor.rs");
+    use serialpost as api;
+    include!("../../compare/src/original/monitor.rs");
+    include!("clock_events.rs");
 }
 
 use std::process::ExitCode;
 use std::rc::Rc;
 
-use host::{raises, Event, Faults, Host, Outcome};
+use host::{Event, Faults, Host};
 use judge::account::reached;
-use judge::format::{self, Device, Operation};
+use judge::driver::Driver;
+use judge::format::{self, Operation};
 use judge::generate::numbers::Numbers;
 use judge::generate::{exhaustive, random, Options};
-use told_time::time::tell;
 
 /// One operation in so many meets a fault of each kind.
 const FAULT_ONCE_IN: usize = 4;
@@ -53,29 +56,30 @@ struct Restores {
 }
 
 impl Restores {
-    fn note(&mut self, outcome: &Outcome, events: &[Event]) {
-        match (outcome, raises(events)) {
-            (Outcome::Full, _) => self.refused += 1,
-            (Outcome::NotRaised(_), 1) => self.first_not_raised += 1,
-            (Outcome::NotRaised(_), _) => self.second_not_raised += 1,
-            (_, 2) => self.raised_twice += 1,
+    fn note(&mut self, events: &[Event]) {
+        match events {
+            [Event::Full] => self.refused += 1,
+            [Event::Raised, Event::NotRaised(_)] => self.first_not_raised += 1,
+            [.., Event::NotRaised(_)] => self.second_not_raised += 1,
+            [Event::Raised, Event::Raised] => self.raised_twice += 1,
             _ => self.done += 1,
         }
     }
 }
 
 impl Met {
-    fn note(&mut self, operation: &Operation, faults: Faults, outcome: &Outcome, events: &[Event]) {
-        if operation.is_about_saved_states() && *operation != Operation::Save {
-            self.restores.note(outcome, events);
+    fn note(&mut self, operation: &Operation, faults: Faults, events: &[Event]) {
+        if operation.brings_back() {
+            self.restores.note(events);
         }
-        let sends = events.iter().any(|e| matches!(e, Event::Sent(_)));
+        let any = |wanted: fn(&Event) -> bool| events.iter().any(wanted);
+        let sends = any(|event| matches!(event, Event::Sent(_)));
+        let not_raised = any(|event| matches!(event, Event::NotRaised(_)));
         self.operations += 1;
         self.sent += usize::from(sends);
         self.raised += usize::from(events.contains(&Event::Raised));
-        self.full += usize::from(*outcome == Outcome::Full);
-        self.not_sent += usize::from(matches!(outcome, Outcome::NotSent(_)));
-        let not_raised = matches!(outcome, Outcome::NotRaised(_));
+        self.full += usize::from(events.contains(&Event::Full));
+        self.not_sent += usize::from(any(|event| matches!(event, Event::NotSent(_))));
         self.not_raised += usize::from(not_raised);
         self.neither += usize::from(not_raised && sends && (faults.write || faults.flush));
     }
@@ -100,45 +104,40 @@ impl Met {
     }
 }
 
+/// Both, each with its host.
 struct Pair {
     hosts: [Rc<Host>; 2],
-    original: original::Monitor,
-    ours: ours::Monitor,
+    original: Driver<original::Monitor>,
+    ours: Driver<ours::Monitor>,
 }
 
 impl Pair {
     fn new() -> Self {
-        let hosts = [Rc::new(Host::default()), Rc::new(Host::default())];
+        let hosts: [Rc<Host>; 2] = Default::default();
         Pair {
-            original: original::Monitor::new(hosts[0].clone()),
-            ours: ours::Monitor::new(hosts[1].clone()),
+            original: Driver::new(original::Monitor(hosts[0].clone())),
+            ours: Driver::new(ours::Monitor(hosts[1].clone())),
             hosts,
         }
     }
 
-    /// Has both do the operation. Answers how they differ, if they do.
-    fn perform(
-        &mut self,
-        operation: &Operation,
-        faults: Faults,
-        met: &mut Met,
-    ) -> Result<(), String> {
-        if let Operation::Now(time) = operation {
-            tell(*time);
-        }
+    /// Has both answer the line under these faults. Answers what the original did to its host, or how they differ.
+    fn answer(&mut self, line: &[u8], faults: Faults) -> Result<Vec<Event>, String> {
         for host in &self.hosts {
             host.faults.set(faults);
+            host.events.take();
         }
-        let wanted = self.original.perform(operation);
-        let found = self.ours.perform(operation);
-        let [wanted_events, found_events] = [&self.hosts[0], &self.hosts[1]].map(|h| h.events());
-        met.note(operation, faults, &wanted, &wanted_events);
-        if wanted == found && wanted_events == found_events {
-            return Ok(());
+        let answers = [self.original.answer(line), self.ours.answer(line)];
+        let [wanted, found] = [0, 1].map(|i| {
+            let answer = String::from_utf8_lossy(&answers[i]).into_owned();
+            (answer, self.hosts[i].events.take())
+        });
+        if wanted != found {
+            return Err(format!(
+                "vm-superio: {wanted:?}\nserialpost: {found:?}\nunder {faults:?}"
+            ));
         }
-        Err(format!(
-            "vm-superio: {wanted:?}, {wanted_events:?}\nserialpost: {found:?}, {found_events:?}\nunder {faults:?}"
-        ))
+        Ok(wanted.1)
     }
 }
 
@@ -173,10 +172,7 @@ fn drive(list: &[u8], seed: u64, met: &mut Met) -> Result<(), String> {
         };
         // A write that may announce two kinds: where raising the first fails vm-superio leaves the second out, ours
         // does not (the README has it among what is different). So the first does not fail there.
-        let announces = matches!(operation, Operation::WriteByte { offset: 1, .. });
-        if operation == Operation::Start(Device::Clock) {
-            tell(0);
-        }
+        let announces = matches!(operation, Operation::WriteByte(1, _));
         let faults = Faults {
             line: [
                 numbers.once_in(FAULT_ONCE_IN) && !announces,
@@ -185,32 +181,29 @@ fn drive(list: &[u8], seed: u64, met: &mut Met) -> Result<(), String> {
             write: numbers.once_in(FAULT_ONCE_IN),
             flush: numbers.once_in(FAULT_ONCE_IN),
         };
-        pair.perform(&operation, faults, met)
-            .and_then(|()| told_apart(&operation, met))
-            .map_err(|why| format!("line {} of seed {seed}: {operation}\n{why}", number + 1))?;
+        let here = |why| format!("line {} of seed {seed}: {operation:?}\n{why}", number + 1);
+        let events = pair.answer(line, faults).map_err(here)?;
+        met.note(&operation, faults, &events);
+        told_apart(&operation, met).map_err(here)?;
     }
     Ok(())
 }
 
 fn compare(met: &mut Met) -> Result<(), String> {
-    let options = Options {
-        devices: Device::ALL.to_vec(),
-        quiet_enable: false,
-        saves: true,
-    };
-    drive(&exhaustive::list(&options), 0, met)?;
+    let everything = Options::default();
+    drive(&exhaustive::list(&everything), 0, met)?;
     for seed in 1..=5 {
-        drive(&random::list(&options, 200_000, seed), seed, met)?;
+        drive(&random::list(&everything, 200_000, seed), seed, met)?;
+    }
+    if met.lacks_something() {
+        return Err("the lists leave something out".to_string());
     }
     Ok(())
 }
 
 fn main() -> ExitCode {
     let mut met = Met::default();
-    let verdict = match compare(&mut met) {
-        Ok(()) if met.lacks_something() => Err("the lists leave something out".to_string()),
-        other => other,
-    };
+    let verdict = compare(&mut met);
     println!("{met:?}");
     match verdict {
         Ok(()) => ExitCode::SUCCESS,

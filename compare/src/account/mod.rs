@@ -1,13 +1,12 @@
-//! The account: what vm-superio 0.8.2 does, as tables, written from a description of its behaviour and
-//! not from its source. It is a second witness beside the original, and the only one where the
+//! The account: what vm-superio 0.8.2 does, written from a description of its behaviour and not from
+//! its source. It is a second witness beside the original, and the only one where the
 //! original's source is not at hand.
 
 pub mod clock;
-pub mod i8042;
 pub mod reached;
 pub mod serial;
 
-use crate::devices::Devices;
+use crate::devices::{self, Devices};
 
 #[derive(Clone, Copy, Default)]
 pub struct Account {
@@ -17,19 +16,27 @@ pub struct Account {
 }
 
 impl Devices for Account {
-    type Serial = serial::Serial;
-    type Clock = clock::Clock;
-    type I8042 = i8042::I8042;
-
-    fn serial(&mut self) -> serial::Serial {
-        serial::Serial::fresh(self.quiet_enable)
+    fn serial(&mut self) -> Box<dyn devices::Serial> {
+        Box::new(serial::Serial::fresh(self.quiet_enable))
     }
 
-    fn clock(&mut self) -> clock::Clock {
-        clock::Clock::default()
+    fn clock(&mut self) -> Box<dyn devices::Clock> {
+        Box::new(clock::Clock::default())
     }
 
-    fn i8042(&mut self) -> i8042::I8042 {
-        i8042::I8042
+    fn i8042(&mut self) -> Box<dyn devices::I8042> {
+        Box::new(I8042)
+    }
+}
+
+pub struct I8042;
+
+impl devices::I8042 for I8042 {
+    fn write(&mut self, offset: u8, value: u8) -> bool {
+        (offset, value) == (4, 0xfe)
+    }
+
+    fn read(&mut self, _offset: u8) -> u8 {
+        0
     }
 }

@@ -1,22 +1,21 @@
 //! Which states a run from a fresh device comes to. The original cannot tell: where it answers, this word
 //! is the account's too.
 
-use super::serial::{Register, LSR_DATA_READY, RECEIVED_DATA, SIZE, TRANSMITTER_EMPTY};
-use crate::devices::{ClockState, SerialState};
+use super::serial::{LSR_DATA_READY, RECEIVED_DATA, SIZE, TRANSMITTER_EMPTY};
+use crate::devices::{ClockState, SerialState, IER, IIR, LSR, MSR};
 
 const LSR_FRESH: u8 = 0x60;
 const MSR_FRESH: u8 = 0xb0;
 
 pub fn serial(state: &SerialState) -> bool {
-    let get = |register: Register| state.registers[register as usize];
     let waiting = state.buffer.len();
     let lsr = match waiting {
         0 => LSR_FRESH,
         _ => LSR_FRESH | LSR_DATA_READY,
     };
-    let (ier, iir) = (get(Register::Ier), get(Register::Iir));
-    get(Register::Lsr) == lsr
-        && get(Register::Msr) == MSR_FRESH
+    let (ier, iir) = (state.registers[IER], state.registers[IIR]);
+    state.registers[LSR] == lsr
+        && state.registers[MSR] == MSR_FRESH
         && waiting <= SIZE
         && ier < 0x10
         && marks(ier, iir, waiting)
@@ -53,78 +52,49 @@ mod tests {
 
     use super::*;
     use crate::account::Account;
-    use crate::devices::{Clock as _, Devices, Serial as _};
-    use crate::driver::{Current, Driver};
-    use crate::format::{asking_lines, Device, Operation};
+    use crate::devices::Devices;
+    use crate::driver::Driver;
+    use crate::format::{asking_lines, Words};
     use crate::generate::{random, Options};
 
-    /// Looks at the current device before each line of a random list without saved states.
-    fn on_a_random_run(device: Device, look: impl Fn(&Current<Account>)) {
+    #[test]
+    fn every_device_met_on_a_random_run_is_reached() {
+        let saves = false;
         let options = Options {
-            devices: vec![device],
-            quiet_enable: false,
-            saves: false,
+            saves,
+            ..Options::default()
         };
         let mut driver = Driver::new(Account::default());
-        for line in asking_lines(&random::list(&options, 50_000, 1)) {
-            look(driver.current());
+        for line in asking_lines(&random::list(&options, 100_000, 1)) {
+            let (port, met) = (driver.port(), driver.clock());
+            assert!(port.iter().all(serial), "{port:?}");
+            assert!(met.iter().all(|(state, _)| clock(state)), "{met:?}");
             driver.answer(line);
         }
     }
 
-    #[test]
-    fn every_port_met_on_a_random_run_is_reached() {
-        on_a_random_run(Device::Serial, |current| {
-            if let Current::Serial(port) = current {
-                assert!(serial(&port.state()), "{:?}", port.state());
-            }
-        });
-    }
-
-    #[test]
-    fn every_clock_met_on_a_random_run_is_reached() {
-        on_a_random_run(Device::Clock, |current| {
-            if let Current::Clock { clock: met, .. } = current {
-                assert!(clock(&met.state()), "{:?}", met.state());
-            }
-        });
-    }
-
-    type Key = ([u8; 9], Vec<u8>);
-
-    fn key(state: SerialState) -> Key {
-        (state.registers, state.buffer)
-    }
-
     /// All ports that operations lead to from a fresh one, where the bytes are zeros and of the registers
     /// that no interrupt depends on only the loop is changed.
-    fn all_met() -> HashSet<Key> {
-        let mut operations: Vec<Operation> = (0..0x10).map(|value| write(1, value)).collect();
-        operations.extend([write(0, 0), write(4, 0x10), write(4, 0x08)]);
-        operations.extend([0, 2].map(|offset| Operation::ReadByte { offset }));
-        operations.extend([1, 64].map(|size| Operation::Input(vec![0; size])));
+    fn all_met() -> HashSet<SerialState> {
+        let mut lines: Vec<String> = (0..0x10).map(|value| format!("w 01 {value:02x}")).collect();
+        lines.extend(["w 00 00", "w 04 10", "w 04 08", "r 00", "r 02", "b 00"].map(String::from));
+        lines.push(format!("b {}", "00".repeat(SIZE)));
         let mut driver = Driver::new(Account::default());
-        driver.perform(&Operation::Start(Device::Serial));
-        let fresh = Account::default().serial().state();
-        let mut met = HashSet::from([key(fresh.clone())]);
-        let mut left = vec![fresh];
+        driver.answer(b"serial");
+        let mut left = vec![driver.port().unwrap()];
+        let mut met = HashSet::from_iter(left.clone());
         while let Some(state) = left.pop() {
-            for operation in &operations {
-                driver.perform(&Operation::RestoreSerial(state.clone()));
-                driver.perform(operation);
-                let Current::Serial(port) = driver.current() else {
-                    unreachable!("no other device was started");
-                };
-                if met.insert(key(port.state())) {
-                    left.push(port.state());
+            let restore = Words::start("restore").registers(&state).waiting(&state).0;
+            for line in &lines {
+                driver.answer(&restore);
+                driver.answer(line.as_bytes());
+                let next = driver.port().unwrap();
+                if met.insert(next.clone()) {
+                    left.push(next);
                 }
             }
         }
         met
-    }
-
-    fn write(offset: u8, value: u8) -> Operation {
-        Operation::WriteByte { offset, value }
     }
 
     #[test]
@@ -134,15 +104,10 @@ mod tests {
         for waiting in 0..=65 {
             for (ier, iir) in (0..0x20).flat_map(|ier| (0..=0xff).map(move |iir| (ier, iir))) {
                 for (lsr, msr) in [(0x60, 0xb0), (0x61, 0xb0), (0x00, 0xb0), (0x61, 0xb1)] {
-                    let state = SerialState {
-                        registers: [0x0c, 0x00, ier, iir, 0x03, lsr, 0x08, msr, 0x00],
-                        buffer: vec![0; waiting],
-                    };
-                    assert_eq!(
-                        serial(&state),
-                        met.contains(&key(state.clone())),
-                        "{state:?}"
-                    );
+                    let registers = [0x0c, 0x00, ier, iir, 0x03, lsr, 0x08, msr, 0x00];
+                    let buffer = vec![0; waiting];
+                    let state = SerialState { registers, buffer };
+                    assert_eq!(serial(&state), met.contains(&state), "{state:?}");
                     reached += usize::from(serial(&state));
                 }
             }
@@ -153,10 +118,10 @@ mod tests {
 
     #[test]
     fn what_no_interrupt_depends_on_may_be_anything() {
-        for registers in [[0xff; 9], [0x00; 9]] {
+        for value in [0xff, 0x00] {
             let mut state = Account::default().serial().state();
             for free in [0, 1, 4, 6, 8] {
-                state.registers[free] = registers[free];
+                state.registers[free] = value;
             }
             assert!(serial(&state), "{state:?}");
         }
@@ -176,11 +141,7 @@ mod tests {
         for load in [0, 1, 0x8000_0000, 0xffff_ffff] {
             let [first, last] = [0, u32::MAX].map(|now| set(load, now));
             assert!(clock(&first) && clock(&last));
-            for (end, step) in [(first, 1), (last, -1)] {
-                let offset = end.offset + step;
-                assert!(!clock(&ClockState { offset, ..end }), "{offset}");
-            }
-            for offset in [i64::MIN, i64::MAX] {
+            for offset in [first.offset + 1, last.offset - 1, i64::MIN, i64::MAX] {
                 assert!(!clock(&ClockState { offset, ..first }), "{offset}");
             }
             assert!(clock(&ClockState { mask: 0, ..first }));

@@ -1,26 +1,7 @@
 //! The serial port of the account.
 
-use std::collections::VecDeque;
-
-use super::reached;
-use crate::devices::{self, Raised, Restored, Serial as _, SerialState};
-
-/// Places in the register file, in the order in which `state` answers them.
-#[derive(Clone, Copy)]
-pub(crate) enum Register {
-    DivisorLow,
-    DivisorHigh,
-    Ier,
-    Iir,
-    Lcr,
-    Lsr,
-    Mcr,
-    Msr,
-    Scr,
-}
-use Register::*;
-
-const FRESH: [u8; 9] = [0x0c, 0x00, 0x00, 0x01, 0x03, 0x60, 0x08, 0xb0, 0x00];
+use crate::devices::{self, Raised, Serial as _, SerialState};
+use crate::devices::{DLL, DLM, IER, IIR, LCR, LSR, MCR, MSR, SCR};
 
 pub(crate) const SIZE: usize = 64;
 
@@ -49,113 +30,61 @@ impl Kind {
         ier & self.enabled != 0
     }
 
-    pub(crate) fn is_marked(&self, iir: u8) -> bool {
+    fn is_marked(&self, iir: u8) -> bool {
         iir & self.marked != 0
     }
+
+    /// Whether it is enabled and marked in a state.
+    pub(crate) fn is_raised(&self, state: &SerialState) -> bool {
+        self.is_enabled(state.registers[IER]) && self.is_marked(state.registers[IIR])
+    }
 }
-
-/// What an access at an offset does. Offsets that a table lacks are written without effect and read
-/// as 0.
-#[derive(Clone, Copy)]
-enum Write {
-    Store(Register),
-    Transmit,
-    Enable,
-    Nothing,
-}
-#[derive(Clone, Copy)]
-enum Read {
-    Show(Register),
-    Fetch,
-    Identify,
-    ShowModemStatus,
-}
-
-/// Offsets 0 and 1 while DLAB is set.
-const DIVISOR: [Register; 2] = [DivisorLow, DivisorHigh];
-
-const WRITES: [Write; 8] = [
-    Write::Transmit,
-    Write::Enable,
-    Write::Nothing,
-    Write::Store(Lcr),
-    Write::Store(Mcr),
-    Write::Nothing,
-    Write::Nothing,
-    Write::Store(Scr),
-];
-
-const READS: [Read; 8] = [
-    Read::Fetch,
-    Read::Show(Ier),
-    Read::Identify,
-    Read::Show(Lcr),
-    Read::Show(Mcr),
-    Read::Show(Lsr),
-    Read::ShowModemStatus,
-    Read::Show(Scr),
-];
 
 /// The loop's wires: a bit of MCR, and the bit of MSR that follows it.
 const WIRES: [(u8, u8); 4] = [(0x02, 0x10), (0x01, 0x20), (0x04, 0x40), (0x08, 0x80)];
 
 pub struct Serial {
-    registers: [u8; 9],
-    pub(crate) buffer: VecDeque<u8>,
+    pub(crate) registers: [u8; 9],
+    pub(crate) buffer: Vec<u8>,
     quiet_enable: bool,
 }
 
 impl Serial {
     pub(crate) fn fresh(quiet_enable: bool) -> Self {
         Serial {
-            registers: FRESH,
-            buffer: VecDeque::new(),
+            registers: [0x0c, 0x00, 0x00, 0x01, 0x03, 0x60, 0x08, 0xb0, 0x00],
+            buffer: Vec::new(),
             quiet_enable,
         }
     }
 
-    pub(crate) fn get(&self, register: Register) -> u8 {
-        self.registers[register as usize]
-    }
-
-    pub(crate) fn set(&mut self, register: Register, value: u8) {
-        self.registers[register as usize] = value;
-    }
-
     pub(crate) fn divisor_is_open(&self) -> bool {
-        self.get(Lcr) & LCR_DLAB != 0
+        self.registers[LCR] & LCR_DLAB != 0
     }
 
     pub(crate) fn loops(&self) -> bool {
-        self.get(Mcr) & MCR_LOOPBACK != 0
-    }
-
-    /// The divisor's register at an offset, while it is open.
-    fn divisor(&self, offset: u8) -> Option<Register> {
-        if !self.divisor_is_open() {
-            return None;
-        }
-        DIVISOR.get(usize::from(offset)).copied()
+        self.registers[MCR] & MCR_LOOPBACK != 0
     }
 
     /// Marks and raises an interrupt that is enabled and not marked yet.
     fn announce(&mut self, kind: Kind) -> Raised {
-        if !kind.is_enabled(self.get(Ier)) || kind.is_marked(self.get(Iir)) {
+        let iir = self.registers[IIR];
+        if !kind.is_enabled(self.registers[IER]) || kind.is_marked(iir) {
             return 0;
         }
-        self.set(Iir, self.get(Iir) & !IIR_NONE | kind.marked);
+        self.registers[IIR] = iir & !IIR_NONE | kind.marked;
         1
     }
 
     fn unmark(&mut self, kind: Kind) {
-        let left = self.get(Iir) & !kind.marked;
-        self.set(Iir, if left == 0 { IIR_NONE } else { left });
+        let left = self.registers[IIR] & !kind.marked;
+        self.registers[IIR] = if left == 0 { IIR_NONE } else { left };
     }
 
     /// Lets bytes arrive for which there is room.
     fn receive(&mut self, bytes: &[u8]) -> Raised {
         self.buffer.extend(bytes);
-        self.set(Lsr, self.get(Lsr) | LSR_DATA_READY);
+        self.registers[LSR] |= LSR_DATA_READY;
         self.announce(RECEIVED_DATA)
     }
 
@@ -170,73 +99,77 @@ impl Serial {
     }
 
     fn enable(&mut self, value: u8) -> Raised {
-        self.set(Ier, value & 0x0f);
+        self.registers[IER] = value & 0x0f;
         if self.quiet_enable {
             return 0;
         }
-        let received = if self.buffer.is_empty() {
-            0
-        } else {
-            self.announce(RECEIVED_DATA)
+        let received = match self.buffer[..] {
+            [] => 0,
+            _ => self.announce(RECEIVED_DATA),
         };
         received + self.announce(TRANSMITTER_EMPTY)
     }
 
     fn fetch(&mut self) -> u8 {
         self.unmark(RECEIVED_DATA);
-        let first = self.buffer.pop_front().unwrap_or(0);
+        let first = match self.buffer[..] {
+            [] => 0,
+            _ => self.buffer.remove(0),
+        };
         if self.buffer.is_empty() {
-            self.set(Lsr, self.get(Lsr) & !LSR_DATA_READY);
+            self.registers[LSR] &= !LSR_DATA_READY;
         }
         first
     }
 
     fn identify(&mut self) -> u8 {
-        let shown = self.get(Iir) | IIR_SHOWN;
-        self.set(Iir, IIR_NONE);
+        let shown = self.registers[IIR] | IIR_SHOWN;
+        self.registers[IIR] = IIR_NONE;
         shown
     }
 
     fn modem_status(&self) -> u8 {
         if !self.loops() {
-            return self.get(Msr);
+            return self.registers[MSR];
         }
-        let follows = |&(control, status): &(u8, u8)| match self.get(Mcr) & control {
-            0 => 0,
-            _ => status,
-        };
-        WIRES
+        let wires = WIRES
             .iter()
-            .map(follows)
-            .fold(self.get(Msr) & 0x0f, |status, bit| status | bit)
+            .filter(|(control, _)| self.registers[MCR] & control != 0);
+        wires.fold(self.registers[MSR] & 0x0f, |shown, (_, status)| {
+            shown | status
+        })
     }
 }
 
 impl devices::Serial for Serial {
+    /// What is written at any other offset has no effect.
     fn write(&mut self, offset: u8, value: u8) -> (Option<u8>, Raised) {
-        if let Some(register) = self.divisor(offset) {
-            self.set(register, value);
-            return (None, 0);
-        }
-        match WRITES.get(usize::from(offset)) {
-            Some(Write::Store(register)) => self.set(*register, value),
-            Some(Write::Transmit) => return self.transmit(value),
-            Some(Write::Enable) => return (None, self.enable(value)),
-            Some(Write::Nothing) | None => {}
+        match (offset, self.divisor_is_open()) {
+            (0, false) => return self.transmit(value),
+            (0, true) => self.registers[DLL] = value,
+            (1, false) => return (None, self.enable(value)),
+            (1, true) => self.registers[DLM] = value,
+            (3, _) => self.registers[LCR] = value,
+            (4, _) => self.registers[MCR] = value,
+            (7, _) => self.registers[SCR] = value,
+            _ => {}
         }
         (None, 0)
     }
 
     fn read(&mut self, offset: u8) -> (u8, Raised) {
-        if let Some(register) = self.divisor(offset) {
-            return (self.get(register), 0);
-        }
-        let value = match READS.get(usize::from(offset)) {
-            Some(Read::Show(register)) => self.get(*register),
-            Some(Read::Fetch) => self.fetch(),
-            Some(Read::Identify) => self.identify(),
-            Some(Read::ShowModemStatus) => self.modem_status(),
-            None => 0,
+        let value = match (offset, self.divisor_is_open()) {
+            (0, false) => self.fetch(),
+            (0, true) => self.registers[DLL],
+            (1, false) => self.registers[IER],
+            (1, true) => self.registers[DLM],
+            (2, _) => self.identify(),
+            (3, _) => self.registers[LCR],
+            (4, _) => self.registers[MCR],
+            (5, _) => self.registers[LSR],
+            (6, _) => self.modem_status(),
+            (7, _) => self.registers[SCR],
+            _ => 0,
         };
         (value, 0)
     }
@@ -257,23 +190,17 @@ impl devices::Serial for Serial {
     }
 
     fn state(&self) -> SerialState {
-        SerialState {
-            registers: self.registers,
-            buffer: self.buffer.iter().copied().collect(),
-        }
+        let (registers, buffer) = (self.registers, self.buffer.clone());
+        SerialState { registers, buffer }
     }
 
-    fn restore(&mut self, state: &SerialState) -> Option<Restored> {
+    fn restore(&mut self, state: &SerialState) -> Option<Raised> {
         if state.buffer.len() > SIZE {
             return None;
         }
         self.registers = state.registers;
-        self.buffer = state.buffer.iter().copied().collect();
-        let is_raised =
-            |kind: &Kind| kind.is_enabled(self.get(Ier)) && kind.is_marked(self.get(Iir));
-        Some(Restored {
-            raised: u32::from(is_raised(&TRANSMITTER_EMPTY)) + u32::from(is_raised(&RECEIVED_DATA)),
-            reached: reached::serial(state),
-        })
+        self.buffer = state.buffer.clone();
+        let kinds = [TRANSMITTER_EMPTY, RECEIVED_DATA];
+        Some(kinds.iter().filter(|kind| kind.is_raised(state)).count())
     }
 }

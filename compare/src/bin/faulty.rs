@@ -3,23 +3,15 @@
 use std::io::{self, Read, Write};
 use std::process::ExitCode;
 
-use judge::command_line::{arguments, finish, Trouble};
+use judge::command_line::{program, Trouble};
 use judge::faulty::{answers, FAULTS};
 
-fn usage() -> Trouble {
-    let mut usage = "usage: faulty FAULT < LIST > ANSWERS, where FAULT is one of".to_string();
-    for (_, _, name, wrong) in FAULTS {
-        usage.push_str(&format!("\n  {name:24}{wrong}"));
-    }
-    Trouble(usage)
-}
-
-fn run() -> Result<ExitCode, Trouble> {
-    let asked_for = arguments();
-    let &(fault, ..) = FAULTS
-        .iter()
-        .find(|(_, _, name, _)| asked_for == [*name])
-        .ok_or_else(usage)?;
+fn run(arguments: &[&str]) -> Result<ExitCode, Trouble> {
+    let Some((_, fault, _)) = FAULTS.iter().find(|(_, name, _)| *arguments == [*name]) else {
+        let faults = FAULTS.map(|(_, name, wrong)| format!("\n  {name:24}{wrong}"));
+        let usage = "usage: faulty FAULT < LIST > ANSWERS, where FAULT is one of";
+        return Err(format!("{usage}{}", faults.concat()).into());
+    };
     let mut list = Vec::new();
     io::stdin().lock().read_to_end(&mut list)?;
     io::stdout().lock().write_all(&answers(fault, list))?;
@@ -27,5 +19,5 @@ fn run() -> Result<ExitCode, Trouble> {
 }
 
 fn main() -> ExitCode {
-    finish("faulty", run())
+    program("faulty", run)
 }

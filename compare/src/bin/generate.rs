@@ -3,7 +3,7 @@
 use std::io::{self, Write};
 use std::process::ExitCode;
 
-use judge::command_line::{arguments, finish, number, Trouble};
+use judge::command_line::{number, program, Trouble};
 use judge::format::Device;
 use judge::generate::{exhaustive, format_cases, random, Options};
 
@@ -16,51 +16,36 @@ const USAGE: &str = "usage: generate KIND [--devices NAME,..] [--quiet-enable] [
                         something in vm-superio 0.8.2
   --no-saves            without saved states";
 
-fn devices(names: &str) -> Result<Vec<Device>, Trouble> {
-    names
-        .split(',')
-        .map(|name| {
-            Device::ALL
-                .into_iter()
-                .find(|device| device.word() == name)
-                .ok_or_else(|| Trouble(format!("there is no device `{name}`")))
-        })
-        .collect()
+fn device(name: &str) -> Result<Device, Trouble> {
+    let device = Device::ALL.into_iter().find(|device| device.word() == name);
+    Ok(device.ok_or_else(|| format!("there is no device `{name}`"))?)
 }
 
-fn run() -> Result<ExitCode, Trouble> {
-    let mut options = Options {
-        devices: Device::ALL.to_vec(),
-        quiet_enable: false,
-        saves: true,
-    };
+fn run(arguments: &[&str]) -> Result<ExitCode, Trouble> {
+    let mut options = Options::default();
     let mut kind = Vec::new();
-    let mut arguments = arguments().into_iter();
-    while let Some(argument) = arguments.next() {
-        match argument.as_str() {
+    let mut arguments = arguments.iter();
+    while let Some(&argument) = arguments.next() {
+        match argument {
             "--quiet-enable" => options.quiet_enable = true,
             "--no-saves" => options.saves = false,
             "--devices" => {
-                let names = arguments.next();
-                options.devices = devices(&names.ok_or_else(|| Trouble(USAGE.to_string()))?)?;
+                let names = arguments.next().ok_or(USAGE)?.split(',');
+                options.devices = names.map(device).collect::<Result<_, _>>()?;
             }
             _ => kind.push(argument),
         }
     }
-    let kind: Vec<&str> = kind.iter().map(String::as_str).collect();
     let list = match kind[..] {
         ["exhaustive"] => exhaustive::list(&options),
-        ["random", count, seed] => {
-            let count = number(count, "N")? as usize;
-            random::list(&options, count, number(seed, "SEED")?)
-        }
+        ["random", count, seed] => random::list(&options, number(count)? as usize, number(seed)?),
         ["format"] => format_cases::list(&options),
-        _ => return Err(Trouble(USAGE.to_string())),
+        _ => return Err(USAGE.into()),
     };
     io::stdout().lock().write_all(&list)?;
     Ok(ExitCode::SUCCESS)
 }
 
 fn main() -> ExitCode {
-    finish("generate", run())
+    program("generate", run)
 }

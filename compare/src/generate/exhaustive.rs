@@ -1,130 +1,93 @@
 //! Lists that leave nothing out within their bounds: every run of up to three operations over a small
 //! alphabet, and every offset, value and state that is brought back where that can be had.
 
-use super::states::{lsr_of, offsets, LOADS};
-use super::{List, Options};
-use crate::devices::{ClockState, SerialState};
-use crate::domain::Place;
-use crate::format::{Device, Operation};
+use super::states::{offsets, LOADS};
+use super::{announces, List, Options};
+use crate::account::Account;
+use crate::driver::Driver;
+use crate::format::{self, Device};
 
 pub fn list(options: &Options) -> Vec<u8> {
     let mut list = List::new(options);
+    let saves = options.saves;
     if list.has(Device::I8042) {
         every_i8042_access(&mut list);
     }
     if list.has(Device::Clock) {
         every_clock_offset(&mut list);
-        every_run(&mut list, options, Device::Clock, &clock_alphabet());
+        every_run(&mut list, "clock", clock_alphabet(saves));
     }
     if list.has(Device::Serial) {
         every_serial_access(&mut list);
-        every_run(&mut list, options, Device::Serial, &serial_alphabet());
+        every_run(&mut list, "serial", serial_alphabet(saves));
     }
-    if options.saves {
-        restored(&mut list);
+    if list.has(Device::Clock) && saves {
+        restored_clocks(&mut list);
     }
-    list.into_text()
+    if list.has(Device::Serial) && saves {
+        restored_registers(&mut list);
+        restored_marks(&mut list);
+    }
+    list.text
 }
 
 /// All reads, all 65,536 writes, and all reads once more.
 fn every_i8042_access(list: &mut List) {
-    list.operation(Operation::Start(Device::I8042));
-    every_i8042_read(list);
+    let reads: Vec<String> = (0..=0xff).map(|offset| format!("r {offset:02x}")).collect();
+    list.add("i8042");
+    list.add(reads.join("\n"));
     for offset in 0..=0xff {
         for value in 0..=0xff {
-            list.operation(Operation::WriteByte { offset, value });
+            list.add(format!("w {offset:02x} {value:02x}"));
         }
     }
-    every_i8042_read(list);
-}
-
-fn every_i8042_read(list: &mut List) {
-    for offset in 0..=0xff {
-        list.operation(Operation::ReadByte { offset });
-    }
+    list.add(reads.join("\n"));
 }
 
 /// All reads, and all 65,536 writes with the modem status after it, each on a fresh port with two bytes
 /// waiting, and with the state at its end.
 fn every_serial_access(list: &mut List) {
-    let fresh = |list: &mut List| {
-        list.operation(Operation::Start(Device::Serial));
-        list.operation(Operation::Input(vec![0x61, 0x62]));
-    };
     for offset in 0..=0xff {
-        fresh(list);
-        list.operation(Operation::ReadByte { offset });
-        list.operation(Operation::State);
+        list.add(format!("serial\nb 6162\nr {offset:02x}\nstate"));
         for value in 0..=0xff {
-            fresh(list);
-            list.operation(Operation::WriteByte { offset, value });
-            list.operation(Operation::ReadByte { offset: 6 });
-            list.operation(Operation::State);
+            list.add(format!("serial\nb 6162\nw {offset:02x} {value:02x}"));
+            list.add("r 06\nstate");
         }
     }
 }
 
 /// All 65,536 offsets, read and written, at several times and with several values.
 fn every_clock_offset(list: &mut List) {
-    let accesses = [
-        (0, 0x0000_0000),
-        (1_000, 0x0000_0001),
-        (0xffff_ffff, 0xffff_ffff),
-        (0x1_0000_0000, 0xddcc_bbaa),
-        (u64::MAX, 0x8000_0000),
-    ];
-    for (now, value) in accesses {
-        list.operation(Operation::Start(Device::Clock));
-        list.operation(Operation::Now(now));
+    for (now, data) in [
+        (0, "00000000"),
+        (1_000, "01000000"),
+        (0xffff_ffff, "ffffffff"),
+        (0x1_0000_0000, "aabbccdd"),
+        (u64::MAX, "00000080"),
+    ] {
+        list.add(format!("clock\nnow {now}"));
         // Registers that differ from each other and from 0, so that each read shows which it was.
-        for (offset, value) in [(0x04, 0x1111_1111), (0x08, 0x2222_2222), (0x10, 1)] {
-            list.operation(clock_write(offset, value));
+        list.add("w 0004 11111111\nw 0008 22222222\nw 0010 01000000");
+        for offset in 0..=0xffff {
+            list.add(format!("r {offset:04x} {data}"));
         }
         for offset in 0..=0xffff {
-            list.operation(clock_read(offset, value));
-        }
-        for offset in 0..=0xffff {
-            list.operation(clock_write(offset, value));
-            list.operation(Operation::State);
+            list.add(format!("w {offset:04x} {data}\nstate"));
         }
     }
-}
-
-fn clock_read(offset: u16, value: u32) -> Operation {
-    let data = value.to_le_bytes();
-    Operation::ReadWord { offset, data }
-}
-
-fn clock_write(offset: u16, value: u32) -> Operation {
-    let data = value.to_le_bytes();
-    Operation::WriteWord { offset, data }
 }
 
 // ---- States that are brought back
 
-fn restored(list: &mut List) {
-    if list.has(Device::Clock) {
-        restored_clocks(list);
-    }
-    if list.has(Device::Serial) {
-        restored_registers(list);
-        restored_marks(list);
-    }
-}
-
 /// Each value of each register, with no byte waiting and with one.
 fn restored_registers(list: &mut List) {
-    for buffer in [vec![], vec![0x61]] {
+    for (lsr, waiting) in [("60", "-"), ("61", "61")] {
         for (place, value) in (0..9).flat_map(|place| (0..=0xff).map(move |value| (place, value))) {
-            let lsr = lsr_of(&buffer);
-            let mut registers = [0x0c, 0x00, 0x00, 0x01, 0x03, lsr, 0x08, 0xb0, 0x00];
-            registers[place] = value;
-            list.operation(Operation::Start(Device::Serial));
-            list.operation(Operation::RestoreSerial(SerialState {
-                registers,
-                buffer: buffer.clone(),
-            }));
-            list.operation(Operation::State);
+            let value = format!("{value:02x}");
+            let mut registers = ["0c", "00", "00", "01", "03", lsr, "08", "b0", "00"];
+            registers[place] = &value;
+            let registers = registers.join(" ");
+            list.add(format!("serial\nrestore {registers} {waiting}\nstate"));
         }
     }
 }
@@ -133,139 +96,108 @@ fn restored_registers(list: &mut List) {
 /// overfull, a line status that fits it and one that contradicts it, in the loop and out of it; then one
 /// access, and the state. The other registers are no fresh port's, so that a refusal shows.
 fn restored_marks(list: &mut List) {
-    let accesses = accesses_after();
+    const IIRS: [u8; 11] = [0, 1, 2, 3, 4, 5, 6, 7, 8, 0xc6, 0xff];
+    const ACCESSES: &str = "b 7a\nr 00\nr 02\nw 00 55\nw 01 00\nw 01 01\nw 01 02\nw 01 03";
     for size in [0, 1, 63, 64, 65] {
-        let buffer: Vec<u8> = (0x21..).take(size).collect();
-        for (lsr, mcr) in [(0, 0x08), (1, 0x08), (0, 0x18), (1, 0x18)] {
-            let lsr = lsr_of(&buffer) ^ lsr;
+        let waiting = different_bytes(size);
+        for (contradicts, mcr) in [(0, "08"), (1, "08"), (0, "18"), (1, "18")] {
+            let lsr = 0x60 | u8::from(size > 0) ^ contradicts;
             for (ier, iir) in (0..=0x10).flat_map(|ier| IIRS.map(|iir| (ier, iir))) {
-                let state = Operation::RestoreSerial(SerialState {
-                    registers: [0x11, 0x22, ier, iir, 0x03, lsr, mcr, 0xb0, 0x33],
-                    buffer: buffer.clone(),
-                });
-                for access in &accesses {
-                    list.operation(Operation::Start(Device::Serial));
-                    list.operation(state.clone());
-                    list.operation(access.clone());
-                    list.operation(Operation::State);
+                let registers = format!("11 22 {ier:02x} {iir:02x} 03 {lsr:02x} {mcr} b0 33");
+                for access in ACCESSES.lines() {
+                    list.add(format!("serial\nrestore {registers} {waiting}"));
+                    list.add(format!("{access}\nstate"));
                 }
             }
         }
     }
 }
 
-const IIRS: [u8; 11] = [0, 1, 2, 3, 4, 5, 6, 7, 8, 0xc6, 0xff];
-
-fn accesses_after() -> Vec<Operation> {
-    let mut accesses = vec![Operation::Input(vec![0x7a])];
-    accesses.extend([0, 2].map(|offset| Operation::ReadByte { offset }));
-    let writes = [(0, 0x55), (1, 0x00), (1, 0x01), (1, 0x02), (1, 0x03)];
-    accesses.extend(writes.map(|(offset, value)| Operation::WriteByte { offset, value }));
-    accesses
+/// So many bytes in hex, no two alike so that their order shows; or `-` for none.
+fn different_bytes(count: u8) -> String {
+    match count {
+        0 => "-".to_string(),
+        _ => (0x21..0x21 + count)
+            .map(|byte| format!("{byte:02x}"))
+            .collect(),
+    }
 }
 
 /// Clocks with offsets at all ends, each read at times at all ends; with each mask and status.
 fn restored_clocks(list: &mut List) {
+    const FLAGS: [(u32, u32); 7] = [(0, 0), (1, 0), (2, 0), (!0, 0), (1, 1), (0, !0), (!0, !0)];
     for (load, offset) in LOADS
-        .into_iter()
-        .flat_map(|load| offsets(load).map(|offset| (load, offset)))
+        .map(|load| offsets(load).map(|offset| (load, offset)))
+        .concat()
     {
-        for (mask, raw) in [(0, 0), (1, 0), (2, 0), (!0, 0), (1, 1), (0, !0), (!0, !0)] {
-            list.operation(Operation::Start(Device::Clock));
-            list.operation(Operation::RestoreClock(ClockState {
-                load,
-                offset,
-                match_: 0x1111_1111,
-                mask,
-                raw,
-            }));
+        for (mask, raw) in FLAGS {
+            let flags = format!("{mask:08x} {raw:08x}");
+            list.add(format!(
+                "clock\nrestore {load:08x} {offset:016x} 11111111 {flags}"
+            ));
             for time in [0, 5, 0x8000_0000, 0xffff_ffff, 0x1_0000_0000, u64::MAX] {
-                list.operation(Operation::Now(time));
-                list.operation(clock_read(0x00, 0xddcc_bbaa));
+                list.add(format!("now {time}\nr 0000 aabbccdd"));
             }
-            for offset in [0x04, 0x08, 0x10, 0x14, 0x18] {
-                list.operation(clock_read(offset, 0xddcc_bbaa));
+            for offset in ["04", "08", "10", "14", "18"] {
+                list.add(format!("r 00{offset} aabbccdd"));
             }
-            list.operation(clock_write(0x1c, 1));
-            list.operation(Operation::State);
+            list.add("w 001c 01000000\nstate");
         }
     }
 }
 
 // ---- Runs
 
-fn serial_alphabet() -> Vec<Operation> {
-    let mut alphabet = vec![Operation::Save, Operation::Restore];
+fn serial_alphabet(saves: bool) -> Vec<String> {
+    let mut alphabet = saves_alphabet(saves);
     for offset in 0..8 {
-        alphabet.push(Operation::ReadByte { offset });
-        for value in [0x00, 0x01, 0x03, 0x10, 0x80, 0xff] {
-            alphabet.push(Operation::WriteByte { offset, value });
-        }
+        alphabet.push(format!("r {offset:02x}"));
+        let values = ["00", "01", "03", "10", "80", "ff"];
+        alphabet.extend(values.map(|value| format!("w {offset:02x} {value}")));
     }
-    for size in [0, 1, 64] {
-        // No two bytes alike, so that their order shows.
-        alphabet.push(Operation::Input((0x21..).take(size).collect()));
-    }
+    alphabet.extend(["b".to_string(), "b 21".to_string()]);
+    alphabet.push(format!("b {}", different_bytes(64)));
     alphabet
 }
 
-fn clock_alphabet() -> Vec<Operation> {
-    let mut alphabet = vec![Operation::Save, Operation::Restore];
+fn clock_alphabet(saves: bool) -> Vec<String> {
+    let mut alphabet = saves_alphabet(saves);
     for offset in [0x00, 0x04, 0x08, 0x0c, 0x10, 0x14, 0x18, 0x1c, 0xfe4] {
-        alphabet.push(clock_read(offset, 0xddcc_bbaa));
-        for value in [0, 1, 0x8000_0000, 0xffff_ffff] {
-            alphabet.push(clock_write(offset, value));
-        }
+        alphabet.push(format!("r {offset:04x} aabbccdd"));
+        let values = ["00000000", "01000000", "00000080", "ffffffff"];
+        alphabet.extend(values.map(|data| format!("w {offset:04x} {data}")));
     }
-    for time in [0, 5, 0xffff_ffff, 0x1_0000_0000, u64::MAX] {
-        alphabet.push(Operation::Now(time));
-    }
+    let times = [0, 5, 0xffff_ffff, 0x1_0000_0000, u64::MAX];
+    alphabet.extend(times.map(|time| format!("now {time}")));
     alphabet
+}
+
+fn saves_alphabet(saves: bool) -> Vec<String> {
+    let lines = if saves { &["save", "restore"][..] } else { &[] };
+    lines.iter().map(|line| line.to_string()).collect()
 }
 
 /// Every run of up to three operations, each on a fresh device and with the state at its end. A run
-/// with an operation that the options leave out is left out whole.
-fn every_run(list: &mut List, options: &Options, device: Device, alphabet: &[Operation]) {
-    let letters: Vec<String> = alphabet
-        .iter()
-        .filter(|letter| options.saves || !letter.is_about_saved_states())
-        .map(Operation::to_string)
-        .collect();
-    for_each_run(&letters, 3, &mut Vec::new(), &mut |run| {
-        if options.quiet_enable && announces(device, run) {
-            return;
+/// with a line that might announce is left out whole where such lines are.
+fn every_run(list: &mut List, device: &str, alphabet: Vec<String>) {
+    // Runs in the order in which each comes before those that begin with it.
+    let mut left = vec![device.to_string()];
+    while let Some(run) = left.pop() {
+        if run.matches('\n').count() < 3 {
+            left.extend(alphabet.iter().rev().map(|line| format!("{run}\n{line}")));
         }
-        list.operation(Operation::Start(device));
-        for line in run {
-            list.line(line.as_bytes());
-        }
-        list.operation(Operation::State);
-    });
-}
-
-fn for_each_run<'a>(
-    letters: &'a [String],
-    longest: usize,
-    run: &mut Vec<&'a str>,
-    visit: &mut impl FnMut(&[&str]),
-) {
-    visit(run);
-    if run.len() < longest {
-        for letter in letters {
-            run.push(letter);
-            for_each_run(letters, longest, run, visit);
-            run.pop();
+        if !list.options.quiet_enable || !has_announcement(&run) {
+            list.add(run + "\nstate");
         }
     }
 }
 
-fn announces(device: Device, run: &[&str]) -> bool {
-    let mut place = Place::default();
-    place.pass(device.word().as_bytes());
-    run.iter().any(|line| {
-        let announces = place.announces(line.as_bytes());
-        place.pass(line.as_bytes());
-        announces
+fn has_announcement(run: &str) -> bool {
+    let mut driver = Driver::new(Account::default());
+    format::asking_lines(run.as_bytes()).any(|line| {
+        let found = announces(&driver, line);
+        driver.answer(line);
+        found
     })
 }
 
@@ -273,55 +205,41 @@ fn announces(device: Device, run: &[&str]) -> bool {
 mod tests {
     use super::*;
 
-    fn starts(device: Device, quiet_enable: bool, saves: bool) -> usize {
+    /// How many lines of a list start a device, and how many there are.
+    fn counts(device: Device, quiet_enable: bool, saves: bool) -> (usize, usize) {
+        let devices = vec![device];
         let text = list(&Options {
-            devices: vec![device],
+            devices,
             quiet_enable,
             saves,
         });
-        text.split(|&byte| byte == b'\n')
-            .filter(|line| *line == device.word().as_bytes())
-            .count()
+        let starts = format::asking_lines(&text).filter(|line| format::is_start(line));
+        (starts.count(), format::asking_lines(&text).count())
     }
 
     #[test]
     fn every_run_of_up_to_three_operations_is_there() {
-        let single_accesses = 256 + 65_536;
         let runs = |letters: usize| 1 + letters + letters.pow(2) + letters.pow(3);
-        assert_eq!(serial_alphabet().len(), 61);
+        let ports = 256 + 65_536 + runs(59);
+        assert_eq!(counts(Device::Serial, false, false).0, ports);
+        let saved_ports = runs(61) - runs(59) + 2 * 9 * 256 + 5 * 4 * 17 * 11 * 8;
+        assert_eq!(counts(Device::Serial, false, true).0, ports + saved_ports);
+        assert_eq!(counts(Device::Clock, false, false).0, 5 + runs(50));
         assert_eq!(
-            starts(Device::Serial, false, false),
-            single_accesses + runs(59)
-        );
-        assert_eq!(
-            starts(Device::Serial, false, true),
-            single_accesses + runs(61) + 2 * 9 * 256 + 5 * 4 * 17 * 11 * 8
-        );
-        assert_eq!(clock_alphabet().len(), 52);
-        assert_eq!(starts(Device::Clock, false, false), 5 + runs(50));
-        assert_eq!(
-            starts(Device::Clock, false, true),
+            counts(Device::Clock, false, true).0,
             5 + runs(52) + 5 * 17 * 7
+        );
+        assert_eq!(
+            counts(Device::I8042, false, true),
+            (1, 1 + 256 + 65_536 + 256)
         );
     }
 
     #[test]
     fn only_runs_that_might_announce_are_left_out() {
-        let all = starts(Device::Serial, false, true);
-        let quiet = starts(Device::Serial, true, true);
+        let [all, quiet] = [false, true].map(|quiet| counts(Device::Serial, quiet, true).0);
         assert!(quiet < all);
         // Two of the six values set bit 0x02, and most runs write no value of offset 1 at all.
         assert!(quiet > all * 4 / 5, "{quiet} of {all}");
-    }
-
-    #[test]
-    fn every_i8042_access_is_there() {
-        let text = list(&Options {
-            devices: vec![Device::I8042],
-            quiet_enable: false,
-            saves: true,
-        });
-        let lines = text.split(|&byte| byte == b'\n').count() - 1;
-        assert_eq!(lines, 1 + 256 + 65_536 + 256);
     }
 }

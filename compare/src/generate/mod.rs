@@ -1,5 +1,6 @@
 //! Makes lists of operations.
 
+mod accesses;
 pub mod exhaustive;
 pub mod format_cases;
 pub mod malformed;
@@ -7,23 +8,54 @@ pub mod numbers;
 pub mod random;
 pub mod states;
 
-use crate::domain::Place;
+use crate::account::Account;
+use crate::devices::LCR;
+use crate::driver::Driver;
 use crate::format::{self, Device, Operation};
 
-/// What a list may hold.
+/// What a list may hold. The default is everything.
 #[derive(Clone)]
 pub struct Options {
     pub devices: Vec<Device>,
-    /// Leave out the writes of the interrupt enable register that might announce (see `domain`).
+    /// Leave out the writes of the interrupt enable register that might announce.
     pub quiet_enable: bool,
     /// Save and restore states. A list without is the one that the same seed made before there were any.
     pub saves: bool,
 }
 
-/// A list that is being written, and where it has got to.
+impl Default for Options {
+    fn default() -> Self {
+        Options {
+            devices: Device::ALL.to_vec(),
+            quiet_enable: false,
+            saves: true,
+        }
+    }
+}
+
+/// Whether a line, after those that the driver has answered, is a write of the interrupt enable register
+/// that might announce.
+///
+/// Since vm-superio 0.8.2 such a write announces what is pending: received data if bytes wait, then
+/// transmitter empty. Before, the register was only stored. A write that enables nothing of the
+/// transmitter's while no byte waits is the same in both; all others are left out of a list on which
+/// devices that announce are compared with an older original.
+pub fn announces(driver: &Driver<Account>, line: &[u8]) -> bool {
+    let Some(Operation::WriteByte(1, value)) = format::parse(line) else {
+        return false;
+    };
+    driver.port().is_some_and(|port| {
+        let divisor_is_open = port.registers[LCR] & 0x80 != 0;
+        !divisor_is_open && (value & 0x02 != 0 || !port.buffer.is_empty())
+    })
+}
+
+/// A list that is being written.
 pub struct List {
     options: Options,
-    place: Place,
+    /// The account, as the list leaves it.
+    driver: Driver<Account>,
+    /// How many lines get an answer.
     asking: usize,
     text: Vec<u8>,
 }
@@ -32,52 +64,39 @@ impl List {
     pub fn new(options: &Options) -> Self {
         List {
             options: options.clone(),
-            place: Place::default(),
+            driver: Driver::new(Account::default()),
             asking: 0,
             text: Vec::new(),
         }
     }
 
-    /// Appends a line, unless the options leave it out.
-    pub fn line(&mut self, line: &[u8]) {
-        if self.is_left_out(line) {
-            return;
+    /// Appends lines, without those that the options leave out.
+    pub fn add(&mut self, lines: impl AsRef<[u8]>) {
+        for line in lines.as_ref().split(|&byte| byte == b'\n') {
+            if self.is_left_out(line) {
+                continue;
+            }
+            if !format::is_passed_over(line) {
+                self.driver.answer(line);
+                self.asking += 1;
+            }
+            self.text.extend_from_slice(line);
+            self.text.push(b'\n');
         }
-        if !format::is_passed_over(line) {
-            self.place.pass(line);
-            self.asking += 1;
-        }
-        self.text.extend_from_slice(line);
-        self.text.push(b'\n');
-    }
-
-    pub fn operation(&mut self, operation: Operation) {
-        self.line(operation.to_string().as_bytes());
     }
 
     fn is_left_out(&self, line: &[u8]) -> bool {
         match format::parse(line) {
             Some(Operation::Start(device)) => !self.has(device),
-            Some(operation) if operation.is_about_saved_states() => !self.options.saves,
-            _ => self.options.quiet_enable && self.place.announces(line),
+            Some(operation) if operation == Operation::Save || operation.brings_back() => {
+                !self.options.saves
+            }
+            _ => self.options.quiet_enable && announces(&self.driver, line),
         }
     }
 
-    pub fn has(&self, device: Device) -> bool {
+    fn has(&self, device: Device) -> bool {
         self.options.devices.contains(&device)
-    }
-
-    pub fn place(&self) -> &Place {
-        &self.place
-    }
-
-    /// How many lines of the list get an answer.
-    pub fn asking(&self) -> usize {
-        self.asking
-    }
-
-    pub fn into_text(self) -> Vec<u8> {
-        self.text
     }
 }
 
@@ -92,16 +111,30 @@ mod tests {
             quiet_enable: true,
             saves: false,
         });
-        let clock = "restore 00000000 0000000000000000 00000000 00000000 00000000";
-        let port = "restore 00 00 00 00 00 00 00 00 00 -";
-        let left_out = ["clock", "w 01 02", "save", "restore", port, clock];
-        for line in ["serial"].iter().chain(&left_out) {
-            list.line(line.as_bytes());
+        list.add("serial\nclock\nw 01 02\nsave\nrestore\nrestore 00 00 00 00 00 00 00 00 00 -");
+        list.add("restore 00000000 0000000000000000 00000000 00000000 00000000");
+        list.add("# no answer\nw 01 01");
+        assert_eq!(list.asking, 2);
+        assert_eq!(list.text, b"serial\n# no answer\nw 01 01\n");
+    }
+
+    #[test]
+    fn a_write_announces_where_versions_differ() {
+        for (before, line, expected) in [
+            ("serial", "w 01 01", false),
+            ("serial", "w 01 0d", false),
+            ("serial", "w 01 02", true),
+            ("serial", "w 01 ff", true),
+            ("serial\nb 61", "w 01 00", true),
+            ("serial\nb 61\nr 00", "w 01 00", false),
+            ("serial\nb 61\nw 03 80", "w 01 ff", false),
+            ("i8042", "w 01 ff", false),
+            ("", "w 01 ff", false),
+        ] {
+            let mut list = List::new(&Options::default());
+            list.add(before);
+            let found = announces(&list.driver, line.as_bytes());
+            assert_eq!(found, expected, "{before}, {line}");
         }
-        for line in ["# no answer", "w 01 01"] {
-            list.line(line.as_bytes());
-        }
-        assert_eq!(list.asking(), 2);
-        assert_eq!(list.into_text(), b"serial\n# no answer\nw 01 01\n");
     }
 }

@@ -1,27 +1,26 @@
 //! Made-up states of the devices: such as a run could have reached, such as are nearly so, and any.
 
 use super::numbers::Numbers;
-use crate::devices::{ClockState, SerialState};
+use crate::account::Account;
+use crate::devices::{ClockState, Devices, SerialState, IER, IIR, LCR, LSR, MCR, MSR};
 
 /// How many bytes wait: none, few, as many as there is room for, and more.
 const SIZES: [usize; 10] = [0, 0, 1, 1, 2, 63, 64, 64, 65, 200];
 
-/// A serial port's state. `near` is the present one.
-pub fn port(numbers: &mut Numbers, near: SerialState) -> SerialState {
+/// A serial port's state, mostly near the present one or such as a run leaves.
+pub fn port(numbers: &mut Numbers, present: Option<SerialState>) -> SerialState {
+    let mut near = present.unwrap_or_else(|| Account::default().serial().state());
     match numbers.below(6) {
         0 => any_port(numbers),
         1 => {
-            let mut state = near;
             let place = numbers.below(9);
-            state.registers[place] = numbers.byte();
-            state
+            near.registers[place] = numbers.byte();
+            near
         }
         2 => {
             let size = numbers.pick(&SIZES);
-            SerialState {
-                registers: near.registers,
-                buffer: numbers.bytes(size),
-            }
+            near.buffer = numbers.bytes(size);
+            near
         }
         3..=4 => likely_port(numbers),
         _ => {
@@ -60,21 +59,13 @@ fn likely_port(numbers: &mut Numbers) -> SerialState {
 /// these bytes wait. (IER and IIR need not go together.)
 fn likely_registers(numbers: &mut Numbers, buffer: &[u8]) -> [(usize, u8); 6] {
     [
-        (2, numbers.pick(&[0x00, 0x01, 0x02, 0x03, 0x03, 0x0f])),
-        (3, numbers.pick(&[0x01, 0x02, 0x04, 0x06, 0x06])),
-        (4, numbers.pick(&[0x03, 0x03, 0x83])),
-        (5, lsr_of(buffer)),
-        (6, numbers.pick(&[0x08, 0x08, 0x0b, 0x18])),
-        (7, 0xb0),
+        (IER, numbers.pick(&[0x00, 0x01, 0x02, 0x03, 0x03, 0x0f])),
+        (IIR, numbers.pick(&[0x01, 0x02, 0x04, 0x06, 0x06])),
+        (LCR, numbers.pick(&[0x03, 0x03, 0x83])),
+        (LSR, 0x60 | u8::from(!buffer.is_empty())),
+        (MCR, numbers.pick(&[0x08, 0x08, 0x0b, 0x18])),
+        (MSR, 0xb0),
     ]
-}
-
-/// The line status that fits the bytes that wait.
-pub fn lsr_of(buffer: &[u8]) -> u8 {
-    match buffer {
-        [] => 0x60,
-        _ => 0x61,
-    }
 }
 
 /// A clock's state. `near` is the present one.
@@ -111,26 +102,12 @@ pub const LOADS: [u32; 5] = [0, 1, 5, 0x8000_0000, 0xffff_ffff];
 
 /// Offsets at the ends of what a clock with this load register can have been set to, of 33 signed bits and
 /// of 64.
+#[rustfmt::skip]
 pub fn offsets(load: u32) -> [i64; 17] {
     const TWO_32: i64 = 1 << 32;
     let load = i64::from(load);
     [
-        0,
-        1,
-        -1,
-        load,
-        load + 1,
-        load - TWO_32,
-        load - TWO_32 + 1,
-        -TWO_32 - 1,
-        -TWO_32,
-        TWO_32 - 1,
-        TWO_32,
-        i64::MIN,
-        i64::MIN + 1,
-        i64::MIN + TWO_32,
-        i64::MAX - TWO_32,
-        i64::MAX - 1,
-        i64::MAX,
+        0, 1, -1, load, load + 1, load - TWO_32, load - TWO_32 + 1, -TWO_32 - 1, -TWO_32, TWO_32 - 1, TWO_32,
+        i64::MIN, i64::MIN + 1, i64::MIN + TWO_32, i64::MAX - TWO_32, i64::MAX - 1, i64::MAX,
     ]
 }
