@@ -1,7 +1,6 @@
 -- Theorems over runs of the clock: any accesses, at any times, from any state unless a statement says otherwise.
 -- Assumes nothing.
 use mathlib.Core.Path.{_≡_, refl, sym, ap, _∙_}
-use mathlib.Core.Bool.{false}
 use mathlib.Core.List.{List, [], _∷_}
 use Prim.Native.Nat.{ℕ, suc, _+_, _-_, _/_, _%_, _^_, _≤_, _<_}
 use native.Mathlib.Decide.{decLt}
@@ -13,6 +12,7 @@ use lib.ListN.{getD}
 use borrow.Author.Tests.{lt-ltb, le-ltb, le-leb, lt-leb}
 use Rattle.common.specs.Bytes.{valueOf}
 use Rattle.clock.specs.Registers.{Clock, fresh, says, becomes, ids, sum, shown, withLr, readOf, writeOf}
+use Rattle.clock.specs.Layout.{refusal}
 use Rattle.clock.specs.Runs.{Access, read, write, resultOf, next, after, answers, All, KeepsTime, CannotWrite, seen}
 use Rattle.clock.proofs.Time.{less, below, minus, shows-sum, shows-now-above, shows-now-below}
 use Rattle.clock.proofs.Registers.{write-cases, reads-dr, reads-imsc, reads-ris, reads-mis, reads-id, writes-lr, writes-cr, writes-imsc, writes-nothing}
@@ -166,9 +166,9 @@ identity-fixed c time offset lent l h = answered c time offset _ lent (reads-id 
 
 -- ---- Places that cannot be written
 
--- A write there is invalid and changes nothing.
+-- A write there is refused and changes nothing.
 pub nothing-written : (c : Clock) (time offset : ℕ) (bytes : List ℕ) → CannotWrite offset
-    → (next c (write time offset bytes) ≡ c) × (resultOf c (write time offset bytes) ≡ record { bytes = bytes; valid = false })
+    → (next c (write time offset bytes) ≡ c) × (resultOf c (write time offset bytes) ≡ record { bytes = bytes; answer = refusal })
 unfolding next resultOf
 nothing-written c time offset bytes h =
     let e = writes-nothing c time offset (valueOf bytes) (h .mr) (h .lr) (h .cr) (h .imsc) (h .icr) in

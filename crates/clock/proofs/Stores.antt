@@ -5,8 +5,8 @@ use mathlib.Core.List.{List, [], _∷_}
 use Prim.Native.Nat.{ℕ, _/_, _%_, _^_}
 use native.Mathlib.Omega.{arith}
 use lib.ListN.{length, set}
-use Rattle.clock.specs.Registers.{fresh, withMr, withLr, withImsc, withRis}
-use Rattle.clock.specs.Layout.{signed, clockOf}
+use Rattle.clock.specs.Registers.{Clock, fresh, becomes, withMr, withLr, withImsc, withRis}
+use Rattle.clock.specs.Layout.{signed, clockOf, Writes}
 use Rattle.clock.proofs.Time.{halves}
 
 pub six-are : (P : List ℕ → Type 0) → ((a b c d e f : ℕ) → P (a ∷ b ∷ c ∷ d ∷ e ∷ f ∷ [])) → (l : List ℕ) → length l ≡ 6 → P l
@@ -19,26 +19,33 @@ six-are P t (a ∷ b ∷ c ∷ d ∷ []) n = absurd (omega arith)
 six-are P t (a ∷ b ∷ c ∷ d ∷ e ∷ []) n = absurd (omega arith)
 six-are P t (a ∷ b ∷ c ∷ d ∷ e ∷ f ∷ g ∷ l) n = absurd (omega arith)
 
+-- A valid write that leaves a clock.
+abbrev Leaves : Clock → List ℕ → List ℕ → Type 0
+Leaves c before after = Writes (becomes c) before after 0
+
 module _ (words : List ℕ) (n : length words ≡ 6) where
   pub cleared : clockOf (set (set (set (set (set (set words 0 0) 1 0) 2 0) 3 0) 4 0) 5 0) ≡ fresh
   unfolding clockOf signed fresh
   cleared = six-are (λ l. clockOf (set (set (set (set (set (set l 0 0) 1 0) 2 0) 3 0) 4 0) 5 0) ≡ fresh) (λ a b c d e f. refl) words n
 
   module _ (v : ℕ) where
-    pub stores-mr : clockOf (set words 1 v) ≡ withMr (clockOf words) v
+    pub stores-mr : Leaves (withMr (clockOf words) v) words (set words 1 v)
     unfolding clockOf
-    stores-mr = six-are (λ l. clockOf (set l 1 v) ≡ withMr (clockOf l) v) (λ a b c d e f. refl) words n
+    stores-mr =
+        six-are (λ l. Leaves (withMr (clockOf l) v) l (set l 1 v)) (λ a b c d e f. record { clock = refl; answer = refl }) words n
 
-    pub stores-imsc : clockOf (set words 2 v) ≡ withImsc (clockOf words) v
+    pub stores-imsc : Leaves (withImsc (clockOf words) v) words (set words 2 v)
     unfolding clockOf
-    stores-imsc = six-are (λ l. clockOf (set l 2 v) ≡ withImsc (clockOf l) v) (λ a b c d e f. refl) words n
+    stores-imsc =
+        six-are (λ l. Leaves (withImsc (clockOf l) v) l (set l 2 v)) (λ a b c d e f. record { clock = refl; answer = refl }) words n
 
-    pub stores-ris : clockOf (set words 3 v) ≡ withRis (clockOf words) v
+    pub stores-ris : Leaves (withRis (clockOf words) v) words (set words 3 v)
     unfolding clockOf
-    stores-ris = six-are (λ l. clockOf (set l 3 v) ≡ withRis (clockOf l) v) (λ a b c d e f. refl) words n
+    stores-ris =
+        six-are (λ l. Leaves (withRis (clockOf l) v) l (set l 3 v)) (λ a b c d e f. record { clock = refl; answer = refl }) words n
 
-    pub stores-lr : (bits : ℕ) → clockOf (set (set (set words 0 v) 4 (bits % 2 ^ 32)) 5 (bits / 2 ^ 32)) ≡ withLr (clockOf words) v (signed bits)
+    pub stores-lr : (bits : ℕ) → Leaves (withLr (clockOf words) v (signed bits)) words (set (set (set words 0 v) 4 (bits % 2 ^ 32)) 5 (bits / 2 ^ 32))
     unfolding clockOf
     stores-lr bits =
-        six-are (λ l. clockOf (set (set (set l 0 v) 4 (bits % 2 ^ 32)) 5 (bits / 2 ^ 32)) ≡ withLr (clockOf l) v (signed bits))
-        (λ a b c d e f. rw (halves bits)) words n
+        six-are (λ l. Leaves (withLr (clockOf l) v (signed bits)) l (set (set (set l 0 v) 4 (bits % 2 ^ 32)) 5 (bits / 2 ^ 32)))
+        (λ a b c d e f. record { clock = rw (halves bits); answer = refl }) words n

@@ -1,7 +1,6 @@
 -- Runs of the code: what the contracts promise of calls one after the other, on the same six words.
 -- Assumes nothing.
 use mathlib.Core.Path.{_≡_, refl, sym, ap, _∙_}
-use mathlib.Core.Bool.{Bool, false, cond}
 use mathlib.Core.List.{List}
 use Prim.Native.Nat.{ℕ, zero, suc, _-_, _^_, _<_}
 use native.Mathlib.Decide.{decLt}
@@ -10,21 +9,21 @@ use lib.IntN.{ℤ, pos, negsuc}
 use lib.ListN.{getD}
 use lib.Seq.{ext-getD}
 use Rattle.clock.specs.Registers.{Clock, fresh, Change, becomes, ignored}
-use Rattle.clock.specs.Layout.{joined, signed, clockOf, Writes}
+use Rattle.clock.specs.Layout.{joined, signed, clockOf, refusal, Writes}
 use Rattle.clock.specs.Runs.{Words, Access, read, write, Result, resultOf, next, after, results, Promised, Called, none, then}
 use Rattle.clock.proofs.Time.{signed-low, signed-high}
 
 -- ---- Calls answer as the definition does
 
-same-result : {b c : List ℕ} {v w : Bool} → b ≡ c → v ≡ w → _≡_ {A = Result} (record { bytes = b; valid = v }) (record { bytes = c; valid = w })
+same-result : {b c : List ℕ} {v w : ℕ} → b ≡ c → v ≡ w → _≡_ {A = Result} (record { bytes = b; answer = v }) (record { bytes = c; answer = w })
 same-result e f = rw (e, f)
 
 -- One call that meets its contract.
 promised : (words : List ℕ) (a : Access) (words′ : List ℕ) (r : Result) → Promised words a words′ r
     → (r ≡ resultOf (clockOf words) a) × (clockOf words′ ≡ next (clockOf words) a)
 unfolding resultOf next
-promised words (read time offset bytes) words′ r p = (same-result (p .1 .bytes) (p .1 .validity), ap clockOf (p .0))
-promised words (write time offset bytes) words′ r p = (same-result (p .0) (p .1 .validity), p .1 .clock)
+promised words (read time offset bytes) words′ r p = (same-result (p .1 .bytes) (p .1 .answer), ap clockOf (p .0))
+promised words (write time offset bytes) words′ r p = (same-result (p .0) (p .1 .answer), p .1 .clock)
 
 -- Calls one after the other give the results of the definition's run, and leave its clock.
 pub as-defined : {words words′ : List ℕ} {run : List Access} {rs : List Result} → Called words run words′ rs
@@ -88,7 +87,7 @@ same-words v w a b e =
     at (suc (suc (suc (suc (suc zero))))) h = omega (arith, halves, a .small 4, a .small 5, b .small 4, b .small 5)
     at (suc (suc (suc (suc (suc (suc i)))))) h = absurd (omega arith)
 
--- A write that is not valid leaves every bit of the words.
-pub invalid-write-keeps : (change : Change) (v w : List ℕ) → Words v → Words w → Writes change v w false → w ≡ v
+-- A write that is refused leaves every bit of the words.
+pub invalid-write-keeps : (change : Change) (v w : List ℕ) → Words v → Words w → Writes change v w refusal → w ≡ v
 invalid-write-keeps ignored v w a b p = same-words w v b a (p .clock)
-invalid-write-keeps (becomes c) v w a b p = let z : _≡_ {A = ℕ} 0 1 = ap (λ (t : Bool). cond t 1 0) (p .validity) in absurd (omega arith)
+invalid-write-keeps (becomes c) v w a b p = absurd (omega (arith, p .answer))

@@ -1,12 +1,12 @@
 -- Worked runs of the clock, by computation.
 -- Assumes nothing.
 use mathlib.Core.Path.{_≡_, refl}
-use mathlib.Core.Bool.{true, false}
 use mathlib.Core.List.{List, [], _∷_}
 use Prim.Native.Nat.{ℕ, _/_, _%_, _^_}
 use lib.ListN.{take, drop}
 use Rattle.common.specs.Bytes.{bytesOf, valueOf}
 use Rattle.clock.specs.Registers.{registerAt, fresh, ids, shown, rule, readOf, writeOf}
+use Rattle.clock.specs.Layout.{refusal}
 use Rattle.clock.specs.Runs.{Access, read, write, Result, resultOf, next, results, answers}
 
 -- The caller's bytes before a read.
@@ -15,10 +15,10 @@ lent = 0xaa ∷ 0xbb ∷ 0xcc ∷ 0xdd ∷ []
 
 -- A valid write, and a refused read.
 abbrev taken : ℕ → Result
-taken v = record { bytes = bytesOf 4 v; valid = true }
+taken v = record { bytes = bytesOf 4 v; answer = 0 }
 
 abbrev left : Result
-left = record { bytes = lent; valid = false }
+left = record { bytes = lent; answer = refusal }
 
 abbrev puts : ℕ → ℕ → ℕ → Access
 puts time offset v = write time offset (bytesOf 4 v)

@@ -2,7 +2,7 @@
 -- promise of both. Any six words are some clock. An access is of four bytes, always: DIFFERENCES, "clock-width".
 use Prim.Native.Nat.{ℕ, _+_, _*_, _^_}
 use mathlib.Core.Path.{_≡_}
-use mathlib.Core.Bool.{Bool, true, false, cond}
+use mathlib.Core.Bool.{cond}
 use mathlib.Core.List.{List}
 use lib.Dec.{ltb}
 use lib.IntN.{ℤ, pos, _-ℤ_}
@@ -29,6 +29,11 @@ clockOf words = record {
   ahead = signed (joined (getD words 4 0) (getD words 5 0));
 }
 
+-- ---- Answers: 0 to an access that was valid, this to one that was refused. Every other bit is 0.
+
+abbrev pub refusal : ℕ
+refusal = 0x1_0000
+
 -- ---- A read
 
 -- The caller's bytes afterwards.
@@ -36,18 +41,14 @@ abbrev pub bytesAfter : Reply → List ℕ → List ℕ
 bytesAfter (says v) bytes = bytesOf 4 v
 bytesAfter refused bytes = bytes
 
-abbrev pub readValid : Reply → Bool
-readValid (says v) = true
-readValid refused = false
+abbrev pub readAnswer : Reply → ℕ
+readAnswer (says v) = 0
+readAnswer refused = refusal
 
-pub record Reads (reply : Reply) (before after : List ℕ) (valid : Bool) : Type 0 where
+-- `read` promises: the caller's bytes, and the answer.
+pub record Reads (reply : Reply) (before after : List ℕ) (r : ℕ) : Type 0 where
   pub bytes : after ≡ bytesAfter reply before
-  pub validity : valid ≡ readValid reply
-
--- The part of it that is the same for every value.
-pub record Answered (value : ℕ) (after : List ℕ) (valid : Bool) : Type 0 where
-  pub bytes : after ≡ bytesOf 4 value
-  pub validity : valid ≡ true
+  pub answer : r ≡ readAnswer reply
 
 -- ---- A write
 
@@ -56,10 +57,11 @@ abbrev pub clockAfter : Change → Clock → Clock
 clockAfter (becomes c′) c = c′
 clockAfter ignored c = c
 
-abbrev pub writeValid : Change → Bool
-writeValid (becomes c′) = true
-writeValid ignored = false
+abbrev pub writeAnswer : Change → ℕ
+writeAnswer (becomes c′) = 0
+writeAnswer ignored = refusal
 
-pub record Writes (change : Change) (before after : List ℕ) (valid : Bool) : Type 0 where
+-- `write` promises: the clock, and the answer.
+pub record Writes (change : Change) (before after : List ℕ) (r : ℕ) : Type 0 where
   pub clock : clockOf after ≡ clockAfter change (clockOf before)
-  pub validity : valid ≡ writeValid change
+  pub answer : r ≡ writeAnswer change

@@ -1,13 +1,13 @@
 -- Runs of the clock: accesses one after the other, each at its own second of the host's time, which may go back.
 use Prim.Native.Nat.{ℕ, _+_, _-_, _^_, _<_}
 use mathlib.Core.Path.{_≡_}
-use mathlib.Core.Bool.{Bool, true, cond, _&&_}
+use mathlib.Core.Bool.{cond, _&&_}
 use mathlib.Core.List.{List, [], _∷_}
 use lib.Dec.{leb, ltb}
 use lib.ListN.{length, getD}
 use Rattle.common.specs.Bytes.{bytesOf, valueOf}
 use Rattle.clock.specs.Registers.{Clock, readOf, writeOf}
-use Rattle.clock.specs.Layout.{clockOf, bytesAfter, readValid, clockAfter, writeValid, Reads, Writes}
+use Rattle.clock.specs.Layout.{clockOf, bytesAfter, readAnswer, clockAfter, writeAnswer, Reads, Writes}
 
 -- ---- One access
 
@@ -16,17 +16,17 @@ pub data Access : Type 0 where
   read : (time offset : ℕ) (bytes : List ℕ) → Access
   write : (time offset : ℕ) (bytes : List ℕ) → Access
 
--- The caller's bytes afterwards, and whether the access was valid.
+-- The caller's bytes afterwards, and the answer.
 pub record Result : Type 0 where
   pub bytes : List ℕ
-  pub valid : Bool
+  pub answer : ℕ
 
 unfoldable pub resultOf : Clock → Access → Result
 resultOf c (read time offset bytes) = record {
   bytes = bytesAfter (readOf c time offset) bytes;
-  valid = readValid (readOf c time offset);
+  answer = readAnswer (readOf c time offset);
 }
-resultOf c (write time offset bytes) = record { bytes = bytes; valid = writeValid (writeOf c time offset (valueOf bytes)) }
+resultOf c (write time offset bytes) = record { bytes = bytes; answer = writeAnswer (writeOf c time offset (valueOf bytes)) }
 
 -- The clock afterwards: a read leaves it as it was.
 unfoldable pub next : Clock → Access → Clock
@@ -45,7 +45,7 @@ results c (a ∷ rest) = resultOf c a ∷ results (next c a) rest
 
 -- A valid read of a value.
 abbrev pub answers : ℕ → Result
-answers v = record { bytes = bytesOf 4 v; valid = true }
+answers v = record { bytes = bytesOf 4 v; answer = 0 }
 
 -- ---- What a guest expects of a clock that it has set
 
@@ -82,9 +82,9 @@ pub record Words (l : List ℕ) : Type 0 where
 -- One call: the words before, the access, the words after and the result. A read is lent the words to read only.
 abbrev pub Promised : List ℕ → Access → List ℕ → Result → Type 0
 Promised words (read time offset bytes) words′ r =
-    (words′ ≡ words) × Reads (readOf (clockOf words) time offset) bytes (r .bytes) (r .valid)
+    (words′ ≡ words) × Reads (readOf (clockOf words) time offset) bytes (r .bytes) (r .answer)
 Promised words (write time offset bytes) words′ r =
-    (r .bytes ≡ bytes) × Writes (writeOf (clockOf words) time offset (valueOf bytes)) words words′ (r .valid)
+    (r .bytes ≡ bytes) × Writes (writeOf (clockOf words) time offset (valueOf bytes)) words words′ (r .answer)
 
 -- Calls one after the other, on the same words.
 pub data Called : List ℕ → List Access → List ℕ → List Result → Type 0 where

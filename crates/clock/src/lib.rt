@@ -7,8 +7,8 @@ ghost use Prim.Native.Nat.{_-_, _/_, _%_, _^_, _≤_};
 ghost use lib.IntN.{pos, _-ℤ_};
 ghost use lib.ListN.{length, getD};
 ghost use Rattle.common.specs.Bytes.{valueOf};
-ghost use Rattle.clock.specs.Registers.{fresh, shown, ids, withLr, readOf, writeOf};
-ghost use Rattle.clock.specs.Layout.{joined, signed, clockOf, Answered, Reads, Writes};
+ghost use Rattle.clock.specs.Registers.{fresh, shown, ids, says, becomes, withLr, readOf, writeOf};
+ghost use Rattle.clock.specs.Layout.{joined, signed, clockOf, Reads, Writes};
 
 // ---- The six words
 
@@ -23,6 +23,12 @@ pub const RAW_STATUS: usize = 3;
 pub const AHEAD_LOW: usize = 4;
 
 pub const AHEAD_HIGH: usize = 5;
+
+// ---- Answers
+
+const VALID: u32 = 0;
+
+const REFUSED: u32 = 0x1_0000;
 
 // ---- The registers' offsets, by the manual's names
 
@@ -62,16 +68,16 @@ fn four(x: &[u8; 4])
 
 // ---- Four bytes and the number that they are, lowest byte first
 
-// Puts `value` into the caller's bytes, and answers true: a valid read.
-fn answer(bytes: &mut [u8; 4], value: u32) -> bool
-    ensures { λ r. ⌜ Answered value (now (bytes .exit)) r ⌝ }
+// A valid read: puts `value` into the caller's bytes.
+fn answer(bytes: &mut [u8; 4], value: u32) -> u32
+    ensures { λ r. ⌜ Reads (says value) (now (bytes .entry)) (now (bytes .exit)) r ⌝ }
 {
     four(bytes);
     bytes[0] = (value % 256) as u8;
     bytes[1] = (value / 256 % 256) as u8;
     bytes[2] = (value / 256 / 256 % 256) as u8;
     bytes[3] = (value / 256 / 256 / 256 % 256) as u8;
-    true
+    VALID
 }
 
 pub fn number(b0: u8, b1: u8, b2: u8, b3: u8) -> u32
@@ -121,14 +127,15 @@ fn difference(value: u32, now: u32) -> u64
     std::num::wrapping_sub_u64(value as u64, now as u64)
 }
 
-// Stores what a write of the load register changes: the register, and how far the clock is ahead.
-fn adjust(clock: &mut [u32; 6], load: u32, ahead: u64)
-    ensures { λ r. ⌜ clockOf (now (clock .exit)) ≡ withLr (clockOf (now (clock .entry))) load (signed ahead) ⌝ }
+// A valid write that changes the load register, and how far the clock is ahead.
+fn adjust(clock: &mut [u32; 6], load: u32, ahead: u64) -> u32
+    ensures { λ r. ⌜ Writes (becomes (withLr (clockOf (now (clock .entry))) load (signed ahead))) (now (clock .entry)) (now (clock .exit)) r ⌝ }
 {
     six(clock);
     clock[LOAD] = load;
     clock[AHEAD_LOW] = (ahead % 0x1_0000_0000) as u32;
     clock[AHEAD_HIGH] = (ahead / 0x1_0000_0000) as u32;
+    VALID
 }
 
 // ---- Identification
@@ -158,9 +165,9 @@ pub fn init(clock: &mut [u32; 6])
     clock[AHEAD_HIGH] = 0;
 }
 
-// The guest reads at `offset` while the host's clock says `time`, in seconds. True: the answer is in `bytes`. False: the read
-// was invalid and `bytes` are as they were.
-pub fn read(clock: &[u32; 6], offset: u16, time: u64, bytes: &mut [u8; 4]) -> bool
+// The guest reads at `offset` while the host's clock says `time`, in seconds. VALID: the register's number is in `bytes`.
+// REFUSED: `bytes` are as they were.
+pub fn read(clock: &[u32; 6], offset: u16, time: u64, bytes: &mut [u8; 4]) -> u32
     ensures { λ r. ⌜ Reads (readOf (clockOf (now (clock .entry))) time offset) (now (bytes .entry)) (now (bytes .exit)) r ⌝ }
 {
     // By itself and first: it is what guests read again and again.
@@ -193,14 +200,13 @@ pub fn read(clock: &[u32; 6], offset: u16, time: u64, bytes: &mut [u8; 4]) -> bo
             return answer(bytes, identity(offset));
         }
         _ => {
-            return false;
+            return REFUSED;
         }
     }
 }
 
-// The guest writes `bytes` at `offset` while the host's clock says `time`, in seconds. False: the write was invalid and changed
-// nothing.
-pub fn write(clock: &mut [u32; 6], offset: u16, time: u64, bytes: &[u8; 4]) -> bool
+// The guest writes `bytes` at `offset` while the host's clock says `time`, in seconds. REFUSED: nothing changed.
+pub fn write(clock: &mut [u32; 6], offset: u16, time: u64, bytes: &[u8; 4]) -> u32
     ensures { λ r. ⌜ Writes (writeOf (clockOf (now (clock .entry))) time offset (valueOf (now (bytes .entry)))) (now (clock .entry)) (now (clock .exit)) r ⌝ }
 {
     six(clock);
@@ -208,29 +214,27 @@ pub fn write(clock: &mut [u32; 6], offset: u16, time: u64, bytes: &[u8; 4]) -> b
     match offset {
         RTCMR => {
             clock[MATCH] = value;
-            return true;
+            return VALID;
         }
         RTCLR => {
-            adjust(clock, value, difference(value, seconds(time)));
-            return true;
+            return adjust(clock, value, difference(value, seconds(time)));
         }
         RTCCR => {
             if value == 1 {
-                adjust(clock, 0, 0);
-                return true;
+                return adjust(clock, 0, 0);
             }
-            return true;
+            return VALID;
         }
         RTCIMSC => {
             clock[MASK] = value % 2;
-            return true;
+            return VALID;
         }
         RTCICR => {
             clock[RAW_STATUS] = clock[RAW_STATUS] & !value;
-            return true;
+            return VALID;
         }
         _ => {
-            return false;
+            return REFUSED;
         }
     }
 }

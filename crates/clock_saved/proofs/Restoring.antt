@@ -14,7 +14,7 @@ use Rattle.clock.proofs.Time.{difference-signed}
 use Rattle.clock.proofs.Stores.{six-are}
 use Rattle.clock.proofs.Words.{same-bits}
 use Rattle.clock_saved.specs.Reachable.{ShowedAt, Reachable}
-use Rattle.clock_saved.specs.Saved.{Restores}
+use Rattle.clock_saved.specs.Saved.{restoreAnswer, Restores}
 
 -- ---- Six words, copied
 
@@ -50,21 +50,25 @@ module _ (value low high : ℕ) (v : value < 2 ^ 32) (l : low < 2 ^ 32) (h : hig
     λ w. absurd (omega (arith, w .1, only-second value (w .0) (joined low high) r v (w .1) (omega arith) s wraps (w .2))),
   )
 
--- ---- What is said of six words that were brought back
+-- ---- Whether six words are reachable
 
-module _ (saved clock : List ℕ) (w : Words saved) (e : clock ≡ saved) where
-  pub mask-too-wide : 1 < getD saved 2 0 → Restores saved clock false
-  unfolding clockOf
-  mask-too-wide h = record { words = e; told = (λ z. absurd (false≢true z), λ (k : Reachable (clockOf saved)). absurd (omega (arith, k .imsc))) }
+module _ (saved : List ℕ) where
+  abbrev Tells : Bool → Type 0
+  Tells r = (r ≡ true) ↔ Reachable (clockOf saved)
 
-  pub status-raised : (getD saved 3 0 ≡ 0 → ⊥) → Restores saved clock false
+  pub mask-too-wide : 1 < getD saved 2 0 → Tells false
   unfolding clockOf
-  status-raised h = record { words = e; told = (λ z. absurd (false≢true z), λ (k : Reachable (clockOf saved)). absurd (h (k .ris))) }
+  mask-too-wide h = (λ z. absurd (false≢true z), λ (k : Reachable (clockOf saved)). absurd (omega (arith, k .imsc)))
 
-  pub told-by-second : {r : Bool} → getD saved 2 0 ≤ 1 → getD saved 3 0 ≡ 0
-      → (r ≡ true) ↔ ShowedAt (signed (joined (getD saved 4 0) (getD saved 5 0))) (getD saved 0 0) → Restores saved clock r
+  pub status-raised : (getD saved 3 0 ≡ 0 → ⊥) → Tells false
   unfolding clockOf
-  told-by-second m s t = record {
-    words = e;
-    told = (λ z. record { mr = w .small 1; lr = w .small 0; imsc = omega arith; ris = s; set = t .0 z }, λ k. t .1 (k .set));
-  }
+  status-raised h = (λ z. absurd (false≢true z), λ (k : Reachable (clockOf saved)). absurd (h (k .ris)))
+
+  pub told-by-second : Words saved → {r : Bool} → getD saved 2 0 ≤ 1 → getD saved 3 0 ≡ 0
+      → (r ≡ true) ↔ ShowedAt (signed (joined (getD saved 4 0) (getD saved 5 0))) (getD saved 0 0) → Tells r
+  unfolding clockOf
+  told-by-second w m s t = (λ z. record { mr = w .small 1; lr = w .small 0; imsc = omega arith; ris = s; set = t .0 z }, λ k. t .1 (k .set))
+
+  -- and the answer that says so
+  pub restores : {clock : List ℕ} {t : Bool} → clock ≡ saved → Tells t → {r : ℕ} → r ≡ restoreAnswer t → Restores saved clock r
+  restores {t = t} e f a = record { words = e; reachable = t; told = f; answer = a }

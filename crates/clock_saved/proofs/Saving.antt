@@ -1,27 +1,28 @@
--- Writing down and bringing back, by what the two calls promise.
+-- Saving and restoring, by what the two calls promise.
 -- Assumes nothing.
 use mathlib.Core.Path.{_≡_, ap, _∙_}
-use mathlib.Core.Bool.{Bool, true, false, false≢true}
+use mathlib.Core.Bool.{true}
 use mathlib.Core.List.{List}
 use Prim.Native.Nat.{ℕ}
+use native.Mathlib.Omega.{arith}
 use Rattle.clock.specs.Registers.{Clock, fresh}
 use Rattle.clock.specs.Layout.{clockOf}
 use Rattle.clock.specs.Runs.{Access, Result, after, results, All, Called}
 use Rattle.clock.proofs.Words.{same-for-ever}
 use Rattle.clock_saved.specs.Reachable.{InRange, Reached, Reachable}
-use Rattle.clock_saved.specs.Saved.{Restores}
+use Rattle.clock_saved.specs.Saved.{restoreAnswer, Restores}
 use Rattle.clock_saved.proofs.Reachable.{fresh-reachable, run-reachable}
 use Rattle.clock_saved.proofs.Exact.{exact}
 
--- Bring back, then write down: the same six words, whatever they are.
-pub save-after-restore : {saved clock again : List ℕ} {reachable : Bool} → Restores saved clock reachable → again ≡ clock → again ≡ saved
-save-after-restore r s = s ∙ r .words
+-- Restore, then save: the same six words, whatever they are.
+pub save-after-restore : {saved clock again : List ℕ} {r : ℕ} → Restores saved clock r → again ≡ clock → again ≡ saved
+save-after-restore p s = s ∙ p .words
 
--- Write down `clock`, then bring it back into `other`.
-module _ {clock saved other : List ℕ} {reachable : Bool} (s : saved ≡ clock) (r : Restores saved other reachable) where
+-- Save `clock`, then restore it into `other`.
+module _ {clock saved other : List ℕ} {r : ℕ} (s : saved ≡ clock) (p : Restores saved other r) where
   -- Not a bit is lost,
   pub restore-after-save : other ≡ clock
-  restore-after-save = r .words ∙ s
+  restore-after-save = p .words ∙ s
 
   pub same-clock : clockOf other ≡ clockOf clock
   same-clock = ap clockOf restore-after-save
@@ -36,14 +37,16 @@ module _ {clock saved other : List ℕ} {reachable : Bool} (s : saved ≡ clock)
       → (rs ≡ ss) × (clockOf other′ ≡ clockOf clock′)
   same-calls = same-for-ever same-clock
 
-  -- A clock that a run could have come to comes back as one, and is said to be one.
-  pub reachable-again : Reachable (clockOf clock) → Reachable (clockOf other) × (reachable ≡ true)
-  reachable-again k = (rw same-clock k, r .told .1 (rw s k))
+  -- A reachable clock is restored as one, and told to be one.
+  pub reachable-again : Reachable (clockOf clock) → Reachable (clockOf other) × (r ≡ restoreAnswer true)
+  reachable-again k = (rw same-clock k, p .answer ∙ ap restoreAnswer (p .told .1 (rw s k)))
 
   -- So does whatever a run from a fresh clock came to,
-  pub told-of-runs : (run : List Access) → All InRange run → clockOf clock ≡ after fresh run → reachable ≡ true
+  pub told-of-runs : (run : List Access) → All InRange run → clockOf clock ≡ after fresh run → r ≡ restoreAnswer true
   told-of-runs run f e = reachable-again (rw e (run-reachable fresh run f fresh-reachable)) .1
 
--- and where it is denied no run comes to what was brought back.
-pub denied-rightly : {saved clock : List ℕ} → Restores saved clock false → Reached (clockOf clock) → ⊥
-denied-rightly {saved} {clock} r k = false≢true (r .told .1 (exact (clockOf saved) .1 (rw (r .words) at k)))
+-- and where it is denied no run comes to what was restored.
+pub denied-rightly : {saved clock : List ℕ} → Restores saved clock 0 → Reached (clockOf clock) → ⊥
+denied-rightly {saved} {clock} p k =
+    let so : p .reachable ≡ true = p .told .1 (exact (clockOf saved) .1 (rw (p .words) at k)) in
+    omega (arith, p .answer ∙ ap restoreAnswer so)

@@ -1,13 +1,19 @@
--- A clock written down and brought back. What is written down are its six words. Any six words are believed, and whether a run from a fresh clock
--- could have come to them is said beside.
+-- A clock saved and restored: its six words. Any six words are restored, and the answer says whether they are reachable.
 use Prim.Native.Nat.{ℕ}
 use mathlib.Core.Path.{_≡_}
-use mathlib.Core.Bool.{Bool, true}
+use mathlib.Core.Bool.{Bool, true, cond}
 use mathlib.Core.List.{List}
 use mathlib.Core.Logic.{_↔_}
 use Rattle.clock.specs.Layout.{clockOf}
 use Rattle.clock_saved.specs.Reachable.{Reachable}
 
-pub record Restores (saved clock : List ℕ) (reachable : Bool) : Type 0 where
+-- The answer: this where a run from a fresh clock could have come to the words, else 0.
+abbrev pub restoreAnswer : Bool → ℕ
+restoreAnswer reachable = cond reachable 0x4_0000 0
+
+-- `restore` promises: the words, and an answer that is right both ways.
+pub record Restores (saved clock : List ℕ) (r : ℕ) : Type 0 where
   pub words : clock ≡ saved
+  pub reachable : Bool
   pub told : (reachable ≡ true) ↔ Reachable (clockOf saved)
+  pub answer : r ≡ restoreAnswer reachable

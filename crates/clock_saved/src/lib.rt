@@ -1,5 +1,5 @@
-// A clock is written down and brought back. What is written down are its six words. Any six words are some clock, so every one is
-// believed; the answer says whether a run from a fresh clock could have come to them.
+// A clock is saved and restored: its six words. Any six words are some clock, so every one is restored; the answer says whether a
+// run from a fresh clock could have come to them.
 use clock::AHEAD_HIGH;
 use clock::AHEAD_LOW;
 use clock::LOAD;
@@ -9,9 +9,9 @@ use clock::join;
 ghost use mathlib.Core.Path.{_≡_};
 ghost use mathlib.Core.Bool.{true};
 ghost use mathlib.Core.Logic.{_↔_};
-ghost use Rattle.clock.specs.Layout.{joined, signed};
+ghost use Rattle.clock.specs.Layout.{joined, signed, clockOf};
 ghost use Rattle.clock.specs.Runs.{Words};
-ghost use Rattle.clock_saved.specs.Reachable.{ShowedAt};
+ghost use Rattle.clock_saved.specs.Reachable.{ShowedAt, Reachable};
 ghost use Rattle.clock_saved.specs.Saved.{Restores};
 
 // Six words are six, of 32 bits each: a call that tells a proof so, and compiles to nothing. To read one of a slice tells of all.
@@ -47,21 +47,10 @@ fn showed(value: u32, low: u32, high: u32) -> bool
     false
 }
 
-// ---- The entry points
-
-// Writes the clock down.
-pub fn save(clock: &[u32; 6], saved: &mut [u32; 6])
-    ensures { λ r. ⌜ now (saved .exit) ≡ now (clock .entry) ⌝ }
-{
-    copy(clock, saved);
-}
-
-// Brings a clock back. True: a run from a fresh clock could have come to it.
-pub fn restore(clock: &mut [u32; 6], saved: &[u32; 6]) -> bool
-    ensures { λ r. ⌜ Restores (now (saved .entry)) (now (clock .exit)) r ⌝ }
+fn is_reachable(saved: &[u32; 6]) -> bool
+    ensures { λ r. ⌜ (r ≡ true) ↔ Reachable (clockOf (now (saved .entry))) ⌝ }
 {
     six_words(saved);
-    copy(saved, clock);
     if saved[MASK] > 1 {
         return false;
     }
@@ -69,4 +58,27 @@ pub fn restore(clock: &mut [u32; 6], saved: &[u32; 6]) -> bool
         return false;
     }
     showed(saved[LOAD], saved[AHEAD_LOW], saved[AHEAD_HIGH])
+}
+
+// ---- The entry points
+
+// The answer of a restore, or 0.
+const REACHABLE: u32 = 0x4_0000;
+
+// Copies the clock.
+pub fn save(clock: &[u32; 6], saved: &mut [u32; 6])
+    ensures { λ r. ⌜ now (saved .exit) ≡ now (clock .entry) ⌝ }
+{
+    copy(clock, saved);
+}
+
+// Copies the clock back. REACHABLE: a run from a fresh clock could have come to it.
+pub fn restore(clock: &mut [u32; 6], saved: &[u32; 6]) -> u32
+    ensures { λ r. ⌜ Restores (now (saved .entry)) (now (clock .exit)) r ⌝ }
+{
+    copy(saved, clock);
+    if is_reachable(saved) {
+        return REACHABLE;
+    }
+    0
 }

@@ -20,7 +20,7 @@ pub extern "C" fn serialpost_clock_read(
     offset: u16,
     time: u64,
     bytes: &mut [u8; 4],
-) -> bool
+) -> u32
     ensures { λ r. ⌜ Reads (readOf (clockOf (now (clock .entry))) time offset) (now (bytes .entry)) (now (bytes .exit)) r ⌝ }
 {
     clock::read(clock, offset, time, bytes)
@@ -32,7 +32,7 @@ pub extern "C" fn serialpost_clock_write(
     offset: u16,
     time: u64,
     bytes: &[u8; 4],
-) -> bool
+) -> u32
     ensures { λ r. ⌜ Writes (writeOf (clockOf (now (clock .entry))) time offset (valueOf (now (bytes .entry)))) (now (clock .entry)) (now (clock .exit)) r ⌝ }
 {
     clock::write(clock, offset, time, bytes)
@@ -46,7 +46,7 @@ pub extern "C" fn serialpost_clock_save(clock: &[u32; 6], saved: &mut [u32; 6])
 }
 
 #[no_mangle]
-pub extern "C" fn serialpost_clock_restore(clock: &mut [u32; 6], saved: &[u32; 6]) -> bool
+pub extern "C" fn serialpost_clock_restore(clock: &mut [u32; 6], saved: &[u32; 6]) -> u32
     ensures { λ r. ⌜ Restores (now (saved .entry)) (now (clock .exit)) r ⌝ }
 {
     clock_saved::restore(clock, saved)

@@ -34,7 +34,7 @@ element-write-bytes-4 : tie.Need-element-write-bytes-4
 element-write-bytes-4 c = search needs
 
 returns : tie.Need-returns
-returns c = record { bytes = stored (c .before .before .args .bytes .now) (c .four .ensures) (c .before .before .args .value); validity = refl }
+returns c = record { bytes = stored (c .before .before .args .bytes .now) (c .four .ensures) (c .before .before .args .value); answer = refl }
 
 pub answer-spec : {M : Type 1} → statement M
 answer-spec =

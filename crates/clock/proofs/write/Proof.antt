@@ -1,6 +1,5 @@
 -- `write` meets its contract. Each return is the rule of the register at its offset.
 -- Assumes nothing.
-use mathlib.Core.Path.{refl}
 use Rattle.clock.specs.Layout.{clockOf}
 use Rattle.clock.proofs.Registers.{writes-mr, writes-imsc, writes-icr, writes-nothing}
 use Rattle.clock.proofs.Stores.{stores-mr, stores-imsc, stores-ris}
@@ -38,7 +37,7 @@ returns-2 : tie.Need-returns-2
 returns-2 c =
     let a = c .before .before .before .before .before .before .before .before .args in
     let v = c .before .before .before .before .before .value-of in
-    rw (← (v .ensures)) (sets (a .clock .now) _ (a .time) (a .offset) (v .result) (c .before .before .before .before .match .keys2) (c .before .before .seconds .ensures) (c .before .difference .ensures) (c .adjust .ensures))
+    rw (← (v .ensures)) (sets (a .clock .now) (a .time) (a .offset) (v .result) (c .before .before .before .before .match .keys2) (c .before .before .seconds .ensures) (c .before .difference .ensures) (c .adjust .ensures))
 
 adjust-requires-2 : tie.Need-adjust-requires-2
 adjust-requires-2 c κs = search needs
@@ -47,13 +46,13 @@ returns-3 : tie.Need-returns-3
 returns-3 c =
     let a = c .before .before .before .before .before .before .before .args in
     let v = c .before .before .before .before .value-of in
-    rw (← (v .ensures)) (restarts (a .clock .now) _ (a .time) (a .offset) (v .result) (c .before .before .before .match .keys3) (c .before .before .if1 .taken) (c .adjust2 .ensures))
+    rw (← (v .ensures)) (restarts (a .clock .now) (a .time) (a .offset) (v .result) (c .before .before .before .match .keys3) (c .before .before .if1 .taken) (c .adjust2 .ensures))
 
 returns-4 : tie.Need-returns-4
 returns-4 c =
     let a = c .before .before .before .before .before .args in
     let v = c .before .before .value-of in
-    rw (← (v .ensures)) (runs-on (a .clock .now) _ (a .time) (a .offset) (v .result) (c .before .match .keys3) (c .if1 .left) refl)
+    rw (← (v .ensures)) (runs-on (a .clock .now) (a .time) (a .offset) (v .result) (c .before .match .keys3) (c .if1 .left))
 
 element-write-clock-2 : tie.Need-element-write-clock-2
 element-write-clock-2 c = search needs

@@ -1,67 +1,27 @@
--- `restore` meets its contract. The words are copied; each test is one of `Reachable`.
+-- `restore` meets its contract: the words are copied, and told to be reachable or not.
 -- Assumes nothing.
-use native.Mathlib.Omega.{arith}
-use Rattle.clock_saved.proofs.Restoring.{mask-too-wide, status-raised, told-by-second}
+use mathlib.Core.Path.{ap, sym}
+use Rattle.clock_saved.specs.Saved.{restoreAnswer}
+use Rattle.clock_saved.proofs.Restoring.{restores}
 use borrow.Author.Needs.{needs}
 use Rattle.clock_saved.proofs.restore.Statement.{statement}
 use Rattle.clock_saved.proofs.restore.Tie as tie
 
-six-words-requires : tie.Need-six-words-requires
-six-words-requires c κs = search needs
-
 copy-requires : tie.Need-copy-requires
 copy-requires c κs = search needs
 
-element-copy-out-if1 : tie.Need-element-copy-out-if1
-element-copy-out-if1 c = search needs
+is-reachable-requires : tie.Need-is-reachable-requires
+is-reachable-requires c κs = search needs
 
 returns : tie.Need-returns
 returns c =
-    let copied = c .before .before in
-    let told = copied .before .before in
-    mask-too-wide (told .before .args .saved .now) _ (told .six-words .ensures) (copied .copy .ensures) (omega arith)
-
-element-copy-out-if2 : tie.Need-element-copy-out-if2
-element-copy-out-if2 c = search needs
+    let told = c .before in
+    restores _ (told .before .copy .ensures) (told .is-reachable .ensures) (ap restoreAnswer (sym (c .if1 .taken)))
 
 returns-2 : tie.Need-returns-2
 returns-2 c =
-    let copied = c .before .before .before .before in
-    let told = copied .before .before in
-    status-raised (told .before .args .saved .now) _ (told .six-words .ensures) (copied .copy .ensures) (c .if2 .taken)
-
-element-copy-out-showed : tie.Need-element-copy-out-showed
-element-copy-out-showed c = search needs
-
-element-copy-out-showed-2 : tie.Need-element-copy-out-showed-2
-element-copy-out-showed-2 c = search needs
-
-element-copy-out-showed-3 : tie.Need-element-copy-out-showed-3
-element-copy-out-showed-3 c = search needs
-
-showed-requires : tie.Need-showed-requires
-showed-requires c κs = search needs
-
-returns-3 : tie.Need-returns-3
-returns-3 c =
-    let quiet = c .before .before .before .before in
-    let copied = quiet .before .before .before .before in
-    let told = copied .before .before in
-    told-by-second (told .before .args .saved .now) _ (told .six-words .ensures) (copied .copy .ensures) (omega arith) (quiet .if2 .left)
-    (c .showed .ensures)
+    let told = c .before in
+    restores _ (told .before .copy .ensures) (told .is-reachable .ensures) (ap restoreAnswer (sym (c .if1 .left)))
 
 pub restore-spec : {M : Type 1} → statement M
-restore-spec =
-    tie.close
-    (tie.spec
-    six-words-requires
-    copy-requires
-    element-copy-out-if1
-    returns
-    element-copy-out-if2
-    returns-2
-    element-copy-out-showed
-    element-copy-out-showed-2
-    element-copy-out-showed-3
-    showed-requires
-    returns-3)
+restore-spec = tie.close (tie.spec copy-requires is-reachable-requires returns returns-2)
