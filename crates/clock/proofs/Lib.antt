@@ -2,6 +2,7 @@ pub mod Bytes
 pub mod Time
 pub mod Registers
 pub mod Stores
+pub mod Spare
 pub mod Steps
 pub mod Runs
 pub mod Words

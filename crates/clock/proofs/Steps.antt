@@ -29,7 +29,7 @@ module _ {change : Change} {before : List ℕ} where
   changes e w = rw e w
 
   pub changes-nothing : change ≡ ignored → Writes change before before refusal
-  changes-nothing e = rw e (record { clock = refl; answer = refl })
+  changes-nothing e = rw e (record { clock = refl; spare = refl; answer = refl })
 
 module _ (words : List ℕ) (time offset v : ℕ) where
   abbrev Wrote : List ℕ → ℕ → Type 0
@@ -47,4 +47,4 @@ module _ (words : List ℕ) (time offset v : ℕ) where
     restarts e one w = changes (writes-cr (clockOf words) time offset v e ∙ rw (eq-eqb v 1 one)) w
 
   pub runs-on : offset ≡ 0x00c → (v ≡ 1 → ⊥) → Wrote words 0
-  runs-on e other = changes (writes-cr (clockOf words) time offset v e ∙ rw (ne-eqb v 1 other)) (record { clock = refl; answer = refl })
+  runs-on e other = changes (writes-cr (clockOf words) time offset v e ∙ rw (ne-eqb v 1 other)) (record { clock = refl; spare = refl; answer = refl })

@@ -1,10 +1,9 @@
 -- Runs of the clock: accesses one after the other, each at its own second of the host's time, which may go back.
-use Prim.Native.Nat.{ℕ, _+_, _-_, _^_, _<_}
+use Prim.Native.Nat.{ℕ, _+_, _-_, _^_}
 use mathlib.Core.Path.{_≡_}
 use mathlib.Core.Bool.{cond, _&&_}
 use mathlib.Core.List.{List, [], _∷_}
 use lib.Dec.{leb, ltb}
-use lib.ListN.{length, getD}
 use Rattle.common.specs.Bytes.{bytesOf, valueOf}
 use Rattle.clock.specs.Registers.{Clock, readOf, writeOf}
 use Rattle.clock.specs.Layout.{clockOf, bytesAfter, readAnswer, clockAfter, writeAnswer, Reads, Writes}
@@ -73,11 +72,6 @@ pub record CannotWrite (offset : ℕ) : Type 0 where
   pub icr : offset ≡ 0x01c → ⊥
 
 -- ---- What the contracts promise of calls in memory
-
--- Six words of 32 bits.
-pub record Words (l : List ℕ) : Type 0 where
-  pub six : length l ≡ 6
-  pub small : (i : ℕ) → getD l i 0 < 2 ^ 32
 
 -- One call: the words before, the access, the words after and the result. A read is lent the words to read only.
 abbrev pub Promised : List ℕ → Access → List ℕ → Result → Type 0

@@ -1,16 +1,18 @@
-// A PL031 real time clock that lies in six words of the caller's memory: four registers, and how many seconds the clock is
-// ahead of the host's time, a signed number of 64 bits in two halves. Any six words are some clock, so no state is refused.
-// The host hands its time to each access; nothing here asks for it.
+// A PL031 real time clock that lies in eight words of the caller's memory: four registers, how many seconds the clock is ahead
+// of the host's time, a signed number of 64 bits in two halves, and two spare words. Any eight words are some clock, so no state
+// is refused. The host hands its time to each access; nothing here asks for it.
 ghost use mathlib.Core.Path.{_≡_};
 ghost use mathlib.Core.List.{[], _∷_};
 ghost use Prim.Native.Nat.{_-_, _/_, _%_, _^_, _≤_};
 ghost use lib.IntN.{pos, _-ℤ_};
 ghost use lib.ListN.{length, getD};
 ghost use Rattle.common.specs.Bytes.{valueOf};
-ghost use Rattle.clock.specs.Registers.{fresh, shown, ids, says, becomes, withLr, readOf, writeOf};
-ghost use Rattle.clock.specs.Layout.{joined, signed, clockOf, Reads, Writes};
+ghost use Rattle.clock.specs.Registers.{shown, ids, says, becomes, withLr, readOf, writeOf};
+ghost use Rattle.clock.specs.Layout.{Words, joined, signed, clockOf, spareIsZero, Inits, Reads, Writes};
 
-// ---- The six words
+// ---- The clock's memory
+
+pub type Clock = [u32; 8];
 
 pub const LOAD: usize = 0;
 
@@ -23,6 +25,11 @@ pub const RAW_STATUS: usize = 3;
 pub const AHEAD_LOW: usize = 4;
 
 pub const AHEAD_HIGH: usize = 5;
+
+// Two spare words: 0 in a fresh clock, and left alone.
+pub const SPARE_FIRST: usize = 6;
+
+pub const SPARE_LAST: usize = 7;
 
 // ---- Answers
 
@@ -54,10 +61,12 @@ const ID_LAST: u16 = 0xfff;
 
 // ---- Arrays are as long as their types say: calls that tell a proof so, and compile to nothing
 
-pub fn six(x: &[u32; 6])
-    ensures { λ r. ⌜ length (now (x .entry)) ≡ 6 ⌝ }
+// And words have 32 bits: to read one of a slice tells of all.
+pub fn eight_words(x: &Clock)
+    ensures { λ r. ⌜ Words (now (x .entry)) ⌝ }
 {
     let s: &[u32] = x;
+    let first = s[0];
 }
 
 fn four(x: &[u8; 4])
@@ -128,10 +137,10 @@ fn difference(value: u32, now: u32) -> u64
 }
 
 // A valid write that changes the load register, and how far the clock is ahead.
-fn adjust(clock: &mut [u32; 6], load: u32, ahead: u64) -> u32
+fn adjust(clock: &mut Clock, load: u32, ahead: u64) -> u32
     ensures { λ r. ⌜ Writes (becomes (withLr (clockOf (now (clock .entry))) load (signed ahead))) (now (clock .entry)) (now (clock .exit)) r ⌝ }
 {
-    six(clock);
+    eight_words(clock);
     clock[LOAD] = load;
     clock[AHEAD_LOW] = (ahead % 0x1_0000_0000) as u32;
     clock[AHEAD_HIGH] = (ahead / 0x1_0000_0000) as u32;
@@ -150,24 +159,37 @@ fn identity(offset: u16) -> u32
     IDS[n]
 }
 
+// ---- The spare words
+
+pub fn spare_is_zero(clock: &Clock) -> bool
+    ensures { λ r. ⌜ r ≡ spareIsZero (now (clock .entry)) ⌝ }
+{
+    if clock[SPARE_FIRST] != 0 {
+        return false;
+    }
+    clock[SPARE_LAST] == 0
+}
+
 // ---- The entry points
 
-// Makes the six words a fresh clock, whatever they were.
-pub fn init(clock: &mut [u32; 6])
-    ensures { λ r. ⌜ clockOf (now (clock .exit)) ≡ fresh ⌝ }
+// Makes the eight words a fresh clock, whatever they were.
+pub fn init(clock: &mut Clock)
+    ensures { λ r. ⌜ Inits (now (clock .exit)) ⌝ }
 {
-    six(clock);
+    eight_words(clock);
     clock[LOAD] = 0;
     clock[MATCH] = 0;
     clock[MASK] = 0;
     clock[RAW_STATUS] = 0;
     clock[AHEAD_LOW] = 0;
     clock[AHEAD_HIGH] = 0;
+    clock[SPARE_FIRST] = 0;
+    clock[SPARE_LAST] = 0;
 }
 
 // The guest reads at `offset` while the host's clock says `time`, in seconds. VALID: the register's number is in `bytes`.
 // REFUSED: `bytes` are as they were.
-pub fn read(clock: &[u32; 6], offset: u16, time: u64, bytes: &mut [u8; 4]) -> u32
+pub fn read(clock: &Clock, offset: u16, time: u64, bytes: &mut [u8; 4]) -> u32
     ensures { λ r. ⌜ Reads (readOf (clockOf (now (clock .entry))) time offset) (now (bytes .entry)) (now (bytes .exit)) r ⌝ }
 {
     // By itself and first: it is what guests read again and again.
@@ -206,10 +228,10 @@ pub fn read(clock: &[u32; 6], offset: u16, time: u64, bytes: &mut [u8; 4]) -> u3
 }
 
 // The guest writes `bytes` at `offset` while the host's clock says `time`, in seconds. REFUSED: nothing changed.
-pub fn write(clock: &mut [u32; 6], offset: u16, time: u64, bytes: &[u8; 4]) -> u32
+pub fn write(clock: &mut Clock, offset: u16, time: u64, bytes: &[u8; 4]) -> u32
     ensures { λ r. ⌜ Writes (writeOf (clockOf (now (clock .entry))) time offset (valueOf (now (bytes .entry)))) (now (clock .entry)) (now (clock .exit)) r ⌝ }
 {
-    six(clock);
+    eight_words(clock);
     let value = value_of(bytes);
     match offset {
         RTCMR => {

@@ -1,7 +1,7 @@
 -- What each return of the code is in the definition.
 -- Assumes nothing.
 use mathlib.Core.Path.{_≡_, refl, sym, _∙_}
-use mathlib.Core.Bool.{Bool, true, false}
+use mathlib.Core.Bool.{Bool, true, false, _&&_}
 use mathlib.Core.List.{List, [], _∷_}
 use Prim.Native.Nat.{ℕ, _+_, _≤_, _<_}
 use native.Mathlib.Omega.{arith}
@@ -9,9 +9,9 @@ use lib.ListN.{length, getD}
 use lib.Seq.{sets, sets-eq}
 use borrow.Author.Tests.{le-leb, lt-leb}
 use Rattle.common.specs.Bytes.{valueOf}
-use Rattle.common.specs.Forms.{Reason, tooShort, trailing, version, offset, refusalWord}
-use Rattle.clock.specs.Layout.{joined, signed, clockOf}
-use Rattle.clock_form.specs.Form.{current, formLength, within33, hasForm, formOf, Read, refused, versionIn, wordAt, wordsIn, readForm}
+use Rattle.common.specs.Forms.{Reason, tooShort, trailing, version, offset, spare, refusalWord}
+use Rattle.clock.specs.Layout.{joined, signed, clockOf, spareIsZero}
+use Rattle.clock_form.specs.Form.{current, formLength, within33, offsetFits, hasForm, whyNone, formOf, Read, refused, versionIn, wordAt, wordsIn, readForm}
 use Rattle.clock_form.specs.Calls.{Encodes, Decodes}
 use Rattle.clock_form.specs.Outcomes.{Known, noVersion, otherVersion, cutOff, leftOver, tooFar, whole}
 use Rattle.clock_form.proofs.Numbers.{form-length}
@@ -19,25 +19,41 @@ use Rattle.clock_form.proofs.Reading.{only-so}
 
 -- ---- Writing
 
+both : {a b s t : Bool} → a ≡ s → b ≡ t → (a && b) ≡ (s && t)
+both e f = rw (e, f)
+
 module _ (words form : List ℕ) {fits : Bool} (told : fits ≡ within33 (signed (joined (getD words 4 0) (getD words 5 0)))) where
-  has-form : hasForm words ≡ fits
-  unfolding hasForm clockOf
-  has-form = sym told
+  offset-fits : offsetFits words ≡ fits
+  unfolding offsetFits clockOf
+  offset-fits = sym told
 
-  pub encode-refuses : fits ≡ false → Encodes words form form (refusalWord offset)
-  encode-refuses e = record { answer = rw (has-form, e); memory = rw (has-form, e) }
+  pub encode-too-far : fits ≡ false → Encodes words form form (refusalWord offset)
+  unfolding hasForm whyNone
+  encode-too-far e = record { answer = rw (offset-fits, e); memory = rw (offset-fits, e) }
 
-  pub encode-tells : fits ≡ true → length form < formLength → Encodes words form form formLength
-  encode-tells e h = record { answer = rw (has-form, e); memory = rw (has-form, e, lt-leb formLength (length form) h) }
+  module _ (e : fits ≡ true) {zero : Bool} (spares : zero ≡ spareIsZero words) where
+    has-form : hasForm words ≡ zero
+    unfolding hasForm
+    has-form = both (offset-fits ∙ e) (sym spares)
 
-  pub encode-writes : length words ≡ 6 → fits ≡ true → formLength ≤ length form → {form′ : List ℕ} → form′ ≡ sets form 0 (formOf words)
-      → Encodes words form form′ formLength
-  encode-writes six e h s =
-      let room : 0 + length (formOf words) ≤ length form = omega (arith, form-length words six) in
-      record {
-        answer = rw (has-form, e);
-        memory = rw (s, has-form, e, le-leb formLength (length form) h) (rw (form-length words six) at (sets-eq (formOf words) form 0 room));
-      }
+    why-none : whyNone words ≡ spare
+    unfolding whyNone
+    why-none = rw (offset-fits, e)
+
+    pub encode-spare : zero ≡ false → Encodes words form form (refusalWord spare)
+    encode-spare z = record { answer = rw (has-form, z, why-none); memory = rw (has-form, z) }
+
+    pub encode-tells : zero ≡ true → length form < formLength → Encodes words form form formLength
+    encode-tells z h = record { answer = rw (has-form, z); memory = rw (has-form, z, lt-leb formLength (length form) h) }
+
+    pub encode-writes : zero ≡ true → length words ≡ 8 → formLength ≤ length form → {form′ : List ℕ} → form′ ≡ sets form 0 (formOf words)
+        → Encodes words form form′ formLength
+    encode-writes z eight h s =
+        let room : 0 + length (formOf words) ≤ length form = omega (arith, form-length words eight) in
+        record {
+          answer = rw (has-form, z);
+          memory = rw (s, has-form, z, le-leb formLength (length form) h) (rw (form-length words eight) at (sets-eq (formOf words) form 0 room));
+        }
 
 -- ---- Reading
 
@@ -71,8 +87,8 @@ module _ (form saved : List ℕ) where
 
       module _ (all : length form ≡ formLength) {low high : ℕ} (l : low ≡ wordAt form 18) (h : high ≡ wordAt form 22) {fits : Bool}
           (told : fits ≡ within33 (signed (joined low high))) where
-        in-form : hasForm (wordsIn form) ≡ fits
-        unfolding hasForm clockOf wordsIn
+        in-form : offsetFits (wordsIn form) ≡ fits
+        unfolding offsetFits clockOf wordsIn
         in-form = rw (← l, ← h) (sym told)
 
         pub decode-too-far : fits ≡ false → Decodes (readForm form) saved saved (refusalWord offset)

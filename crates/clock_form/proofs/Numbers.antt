@@ -7,7 +7,7 @@ use native.Mathlib.Omega.{arith}
 use lib.ListN.{length, getD, set}
 use lib.Seq.{drop-cons, sets}
 use Rattle.common.specs.Bytes.{bytesOf, valueOf}
-use Rattle.clock.proofs.Stores.{six-are}
+use Rattle.clock.proofs.Stores.{eight-are}
 use Rattle.clock_form.specs.Form.{current, formLength, bytesOfWords, formOf, wordAt, wordsIn}
 
 -- ---- Places one behind another
@@ -40,30 +40,31 @@ pub four-stores : (form : List ℕ) (at n : ℕ)
 unfolding bytesOf
 four-stores form at n = rw (one at, two at, three at)
 
-pub form-length : (words : List ℕ) → length words ≡ 6 → length (formOf words) ≡ formLength
+pub form-length : (words : List ℕ) → length words ≡ 8 → length (formOf words) ≡ formLength
 unfolding formOf bytesOfWords bytesOf
-form-length = six-are (λ w. length (formOf w) ≡ formLength) (λ _ _ _ _ _ _. refl)
+form-length = eight-are (λ w. length (formOf w) ≡ formLength) (λ _ _ _ _ _ _ _ _. refl)
 
 abbrev one-by-one : List ℕ → List ℕ → List ℕ
 one-by-one form w =
     sets (sets (sets (sets (sets (sets (sets form 0 (bytesOf 2 current)) 2 (bytesOf 4 (getD w 0 0))) 6 (bytesOf 4 (getD w 1 0)))
     10 (bytesOf 4 (getD w 2 0))) 14 (bytesOf 4 (getD w 3 0))) 18 (bytesOf 4 (getD w 4 0))) 22 (bytesOf 4 (getD w 5 0))
 
-in-one : (form words : List ℕ) → length words ≡ 6 → one-by-one form words ≡ sets form 0 (formOf words)
+in-one : (form words : List ℕ) → length words ≡ 8 → one-by-one form words ≡ sets form 0 (formOf words)
 unfolding formOf bytesOfWords bytesOf
-in-one form = six-are (λ w. one-by-one form w ≡ sets form 0 (formOf w)) (λ a b c d e f. refl)
+in-one form = eight-are (λ w. one-by-one form w ≡ sets form 0 (formOf w)) (λ _ _ _ _ _ _ _ _. refl)
 
-pub writes : (words form : List ℕ) → length words ≡ 6 → {form₀ form₁ form₂ form₃ form₄ form₅ form₆ : List ℕ} → form₀ ≡ sets form 0 (bytesOf 2 current)
+pub writes : (words form : List ℕ) → length words ≡ 8 → {form₀ form₁ form₂ form₃ form₄ form₅ form₆ : List ℕ} → form₀ ≡ sets form 0 (bytesOf 2 current)
     → form₁ ≡ sets form₀ 2 (bytesOf 4 (getD words 0 0)) → form₂ ≡ sets form₁ 6 (bytesOf 4 (getD words 1 0))
     → form₃ ≡ sets form₂ 10 (bytesOf 4 (getD words 2 0)) → form₄ ≡ sets form₃ 14 (bytesOf 4 (getD words 3 0))
     → form₅ ≡ sets form₄ 18 (bytesOf 4 (getD words 4 0)) → form₆ ≡ sets form₅ 22 (bytesOf 4 (getD words 5 0))
     → form₆ ≡ sets form 0 (formOf words)
-writes words form six e₀ e₁ e₂ e₃ e₄ e₅ e₆ = rw (e₆, e₅, e₄, e₃, e₂, e₁, e₀) (in-one form words six)
+writes words form eight e₀ e₁ e₂ e₃ e₄ e₅ e₆ = rw (e₆, e₅, e₄, e₃, e₂, e₁, e₀) (in-one form words eight)
 
-pub reads-words : (form saved : List ℕ) → length saved ≡ 6 → {w₀ w₁ w₂ w₃ w₄ w₅ : ℕ} → w₀ ≡ wordAt form 2 → w₁ ≡ wordAt form 6 → w₂ ≡ wordAt form 10
+pub reads-words : (form saved : List ℕ) → length saved ≡ 8 → {w₀ w₁ w₂ w₃ w₄ w₅ : ℕ} → w₀ ≡ wordAt form 2 → w₁ ≡ wordAt form 6 → w₂ ≡ wordAt form 10
     → w₃ ≡ wordAt form 14 → w₄ ≡ wordAt form 18 → w₅ ≡ wordAt form 22
-    → set (set (set (set (set (set saved 0 w₀) 1 w₁) 2 w₂) 3 w₃) 4 w₄) 5 w₅ ≡ wordsIn form
+    → set (set (set (set (set (set (set (set saved 0 w₀) 1 w₁) 2 w₂) 3 w₃) 4 w₄) 5 w₅) 6 0) 7 0 ≡ wordsIn form
 unfolding wordsIn
-reads-words form saved six {w₀} {w₁} {w₂} {w₃} {w₄} {w₅} e₀ e₁ e₂ e₃ e₄ e₅ =
+reads-words form saved eight {w₀} {w₁} {w₂} {w₃} {w₄} {w₅} e₀ e₁ e₂ e₃ e₄ e₅ =
     rw (← e₀, ← e₁, ← e₂, ← e₃, ← e₄, ← e₅)
-    (six-are (λ l. set (set (set (set (set (set l 0 w₀) 1 w₁) 2 w₂) 3 w₃) 4 w₄) 5 w₅ ≡ w₀ ∷ w₁ ∷ w₂ ∷ w₃ ∷ w₄ ∷ w₅ ∷ []) (λ _ _ _ _ _ _. refl) saved six)
+    (eight-are (λ l. set (set (set (set (set (set (set (set l 0 w₀) 1 w₁) 2 w₂) 3 w₃) 4 w₄) 5 w₅) 6 0) 7 0 ≡ w₀ ∷ w₁ ∷ w₂ ∷ w₃ ∷ w₄ ∷ w₅ ∷ 0 ∷ 0 ∷ [])
+    (λ _ _ _ _ _ _ _ _. refl) saved eight)

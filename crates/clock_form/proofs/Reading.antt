@@ -9,7 +9,7 @@ use native.Mathlib.Omega.{arith}
 use lib.Dec.{ltb}
 use lib.ListN.{length}
 use borrow.Author.Tests.{lt-ltb, le-ltb, eq-eqb, ne-eqb}
-use Rattle.clock_form.specs.Form.{current, formLength, hasForm, Read, versionIn, wordsIn, readCurrent, readForm}
+use Rattle.clock_form.specs.Form.{current, formLength, offsetFits, Read, versionIn, wordsIn, readCurrent, readForm}
 use Rattle.clock_form.specs.Outcomes.{Known, Comes, noVersion, otherVersion, cutOff, leftOver, tooFar, whole}
 
 module _ (form : List ℕ) where
@@ -38,13 +38,13 @@ module _ (form : List ℕ) where
   pub comes : Comes form (readForm form)
   comes =
       go (decLt (length form) 2) (ℕ-discrete (versionIn form) current) (decLt (length form) formLength) (decLt formLength (length form))
-      (hasForm (wordsIn form)) refl
+      (offsetFits (wordsIn form)) refl
     where
       by : {o : Read} → Comes form o → Comes form (readForm form)
       by o = rw (only-so o) o
 
       go : Dec (length form < 2) → Dec (versionIn form ≡ current) → Dec (length form < formLength) → Dec (formLength < length form)
-          → (f : Bool) → hasForm (wordsIn form) ≡ f → Comes form (readForm form)
+          → (f : Bool) → offsetFits (wordsIn form) ≡ f → Comes form (readForm form)
       go (yes h) v s t f e = by (noVersion h)
       go (no h) (no v) s t f e = by (otherVersion (omega arith) v)
       go (no h) (yes v) (yes s) t f e = by (cutOff (record { there = omega arith; known = v }) s)

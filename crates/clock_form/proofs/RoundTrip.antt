@@ -1,7 +1,7 @@
 -- Writing and reading are inverse. That nothing past the end is read needs no theorem: no index is out of range in code that is proved.
 -- Assumes nothing.
 use mathlib.Core.Path.{_≡_, refl, sym, ap, _∙_}
-use mathlib.Core.Bool.{Bool, true, false, cond}
+use mathlib.Core.Bool.{Bool, true, false, cond, _&&_, false≢true}
 use mathlib.Core.List.{List, [], _∷_, _++_}
 use Prim.Native.Nat.{ℕ, zero, suc, _+_, _^_, _≤_, _<_}
 use native.Mathlib.Omega.{arith}
@@ -12,9 +12,10 @@ use borrow.Author.Tests.{le-leb}
 use Rattle.common.specs.Bytes.{bytesOf, valueOf, Bytes}
 use Rattle.common.specs.Forms.{offset, refusalWord}
 use Rattle.common.proofs.Bytes.{bytes-take, bytes-drop, value-of-bytes, value-small, bytes-of-value}
-use Rattle.clock.specs.Runs.{Words}
-use Rattle.clock.proofs.Stores.{six-are}
-use Rattle.clock_form.specs.Form.{current, formLength, hasForm, bytesOfWords, formOf, Read, refused, reads, versionIn, wordAt, wordsIn, readForm}
+use Rattle.clock.specs.Layout.{Words, clockOf, spareOf, spareIsZero}
+use Rattle.clock.proofs.Stores.{eight-are}
+use Rattle.clock.proofs.Spare.{spare-zero}
+use Rattle.clock_form.specs.Form.{current, formLength, offsetFits, hasForm, whyNone, bytesOfWords, formOf, Read, refused, reads, versionIn, wordAt, wordsIn, readForm}
 use Rattle.clock_form.specs.Calls.{answerOf, wordsAfter, Encodes, Decodes}
 use Rattle.clock_form.specs.Outcomes.{Known, Comes, whole, tooFar, ReadFrom}
 use Rattle.clock_form.proofs.Numbers.{form-length}
@@ -22,33 +23,69 @@ use Rattle.clock_form.proofs.Reading.{only-so, comes}
 
 -- ---- What was written is read back
 
-pub words-back : (words : List ℕ) → Words words → wordsIn (formOf words) ≡ words
+-- Words with their spare ones cleared.
+abbrev cleared : List ℕ → List ℕ
+cleared words = take 6 words ++ (0 ∷ 0 ∷ [])
+
+pub words-back : (words : List ℕ) → Words words → wordsIn (formOf words) ≡ cleared words
 unfolding wordsIn formOf bytesOfWords bytesOf
-words-back words w = six-are (λ l. Words l → wordsIn (formOf l) ≡ l) each words (w .six) w
+words-back words w = eight-are (λ l. Words l → wordsIn (formOf l) ≡ cleared l) each words (w .eight) w
   where
     back : {l : List ℕ} → Words l → (i : ℕ) → valueOf (bytesOf 4 (getD l i 0)) ≡ getD l i 0
     back {l} w i = value-of-bytes 4 (getD l i 0) (w .small i)
 
-    each : (a b c d e f : ℕ) → Words (a ∷ b ∷ c ∷ d ∷ e ∷ f ∷ []) → wordsIn (formOf (a ∷ b ∷ c ∷ d ∷ e ∷ f ∷ [])) ≡ a ∷ b ∷ c ∷ d ∷ e ∷ f ∷ []
-    each a b c d e f w = rw (back w 0, back w 1, back w 2, back w 3, back w 4, back w 5)
+    each : (a b c d e f g h : ℕ) → Words (a ∷ b ∷ c ∷ d ∷ e ∷ f ∷ g ∷ h ∷ [])
+        → wordsIn (formOf (a ∷ b ∷ c ∷ d ∷ e ∷ f ∷ g ∷ h ∷ [])) ≡ a ∷ b ∷ c ∷ d ∷ e ∷ f ∷ 0 ∷ 0 ∷ []
+    each a b c d e f g h w = rw (back w 0, back w 1, back w 2, back w 3, back w 4, back w 5)
+
+-- Nothing is lost where they are 0.
+nothing-cleared : (words : List ℕ) → length words ≡ 8 → spareIsZero words ≡ true → cleared words ≡ words
+unfolding spareOf
+nothing-cleared words n z = eight-are (λ l. spareOf l ≡ 0 ∷ 0 ∷ [] → cleared l ≡ l) each words n (spare-zero words z)
+  where
+    each : (a b c d e f g h : ℕ) → g ∷ h ∷ [] ≡ 0 ∷ 0 ∷ [] → a ∷ b ∷ c ∷ d ∷ e ∷ f ∷ 0 ∷ 0 ∷ [] ≡ a ∷ b ∷ c ∷ d ∷ e ∷ f ∷ g ∷ h ∷ []
+    each a b c d e f g h z = rw z
+
+-- The form says all of the offset.
+offset-back : (words : List ℕ) → length words ≡ 8 → offsetFits (cleared words) ≡ offsetFits words
+unfolding offsetFits clockOf
+offset-back = eight-are (λ l. offsetFits (cleared l) ≡ offsetFits l) (λ _ _ _ _ _ _ _ _. refl)
 
 version-back : (words : List ℕ) → versionIn (formOf words) ≡ current
 unfolding formOf bytesOf valueOf
 version-back words = refl
 
--- The reader says of a clock's form what the writer says of the clock: it is read as it was, or its offset has no form.
-pub read-written : (words : List ℕ) → Words words → readForm (formOf words) ≡ cond (hasForm words) (reads words) (refused offset)
-read-written words w = go (hasForm words) refl
+-- What was written of any words is read with their spare ones cleared, or refused for its offset.
+pub read-any : (words : List ℕ) → Words words → readForm (formOf words) ≡ cond (offsetFits words) (reads (cleared words)) (refused offset)
+read-any words w = go (offsetFits words) refl
   where
     long : length (formOf words) ≡ formLength
-    long = form-length words (w .six)
+    long = form-length words (w .eight)
 
     known : Known (formOf words)
     known = record { there = omega (arith, long); known = version-back words }
 
-    go : (f : Bool) → hasForm words ≡ f → readForm (formOf words) ≡ cond f (reads words) (refused offset)
-    go true e = only-so (formOf words) (whole known long (rw (words-back words w) e)) ∙ ap reads (words-back words w)
-    go false e = only-so (formOf words) (tooFar known long (rw (words-back words w) e))
+    fits : offsetFits (wordsIn (formOf words)) ≡ offsetFits words
+    fits = ap offsetFits (words-back words w) ∙ offset-back words (w .eight)
+
+    go : (f : Bool) → offsetFits words ≡ f → readForm (formOf words) ≡ cond f (reads (cleared words)) (refused offset)
+    go true e = only-so (formOf words) (whole known long (fits ∙ e)) ∙ ap reads (words-back words w)
+    go false e = only-so (formOf words) (tooFar known long (fits ∙ e))
+
+-- A clock that has a form has both of these.
+parts : (a b : Bool) → (a && b) ≡ true → (a ≡ true) × (b ≡ true)
+parts true b e = (refl, e)
+parts false b e = absurd (false≢true e)
+
+fits-and-zero : (words : List ℕ) → hasForm words ≡ true → (offsetFits words ≡ true) × (spareIsZero words ≡ true)
+unfolding hasForm
+fits-and-zero words e = parts (offsetFits words) (spareIsZero words) e
+
+-- So a clock that has a form is read as it was.
+pub read-written : (words : List ℕ) → Words words → hasForm words ≡ true → readForm (formOf words) ≡ reads words
+read-written words w f =
+    let k = fits-and-zero words f in
+    read-any words w ∙ rw (k .0) (ap reads (nothing-cleared words (w .eight) (k .1)))
 
 -- ---- What is read is a clock that has a form, and is written as the same bytes
 
@@ -71,7 +108,7 @@ module _ (form : List ℕ) (b : Bytes form) (all : length form ≡ formLength) w
 
   read-words : Words (wordsIn form)
   unfolding wordsIn
-  read-words = record { six = refl; small = at }
+  read-words = record { eight = refl; small = at }
     where
       at : (i : ℕ) → getD (wordsIn form) i 0 < 2 ^ 32
       at zero = word-small 2 (omega arith)
@@ -80,7 +117,9 @@ module _ (form : List ℕ) (b : Bytes form) (all : length form ≡ formLength) w
       at (suc (suc (suc zero))) = word-small 14 (omega arith)
       at (suc (suc (suc (suc zero)))) = word-small 18 (omega arith)
       at (suc (suc (suc (suc (suc zero))))) = word-small 22 (omega arith)
-      at (suc (suc (suc (suc (suc (suc i)))))) = lit< tt
+      at (suc (suc (suc (suc (suc (suc zero)))))) = lit< tt
+      at (suc (suc (suc (suc (suc (suc (suc zero))))))) = lit< tt
+      at (suc (suc (suc (suc (suc (suc (suc (suc i)))))))) = lit< tt
 
   same-form : versionIn form ≡ current → formOf (wordsIn form) ≡ form
   unfolding formOf bytesOfWords wordsIn
@@ -94,18 +133,29 @@ module _ (form : List ℕ) (b : Bytes form) (all : length form ≡ formLength) w
       (word-again 14 (omega arith) (word-again 18 (omega arith) (word-again 22 (omega arith) end))))) in
       rw (front, words) (take-append-drop 2 form)
 
+-- The spare words are read as 0.
+zero-read : (form : List ℕ) → offsetFits (wordsIn form) ≡ true → hasForm (wordsIn form) ≡ true
+unfolding hasForm wordsIn spareIsZero
+zero-read form f = rw f
+
 pub written-read : (form words : List ℕ) → Bytes form → readForm form ≡ reads words → ReadFrom form words
 written-read form words b r = go (rw r at (comes form))
   where
     go : {words : List ℕ} → Comes form (reads words) → ReadFrom form words
-    go (whole k e f) = record { long = e; fits = read-words form b e; has-form = f; written = same-form form b e (k .known) }
+    go (whole k e f) = record { long = e; fits = read-words form b e; has-form = zero-read form f; written = same-form form b e (k .known) }
 
 -- ---- The same by the calls
 
--- A clock that has no form is refused by the writer with the reason that the reader has for it, and nothing is written.
+-- A clock that has no form is refused by the writer, for its offset or else for its spare words, and nothing is written.
 pub encode-refused : {words form form′ : List ℕ} {r : ℕ} → hasForm words ≡ false → Encodes words form form′ r
-    → (r ≡ refusalWord offset) × (form′ ≡ form)
+    → (r ≡ refusalWord (whyNone words)) × (form′ ≡ form)
 encode-refused f e = (rw f at (e .answer), rw f at (e .memory))
+
+-- No spare word is dropped.
+pub spare-refused : {words form form′ : List ℕ} {r : ℕ} → spareIsZero words ≡ false → offsetFits words ≡ true → Encodes words form form′ r
+    → (r ≡ 0x1_0006) × (form′ ≡ form)
+unfolding hasForm whyNone
+spare-refused {words} z f e = (rw (f, z) at (e .answer), rw (f, z) at (e .memory))
 
 -- Whatever is answered but 0, the words are as they were.
 pub decode-refused : {o : Read} {saved saved′ : List ℕ} {r : ℕ} → Decodes o saved saved′ r → (r ≡ 0 → ⊥) → saved′ ≡ saved
@@ -113,19 +163,19 @@ decode-refused {o = refused reason} d n = d .words
 decode-refused {o = reads words} d n = absurd (n (d .answer))
 
 -- Where there is room, the form lies first.
-encoded : {words form form′ : List ℕ} {r : ℕ} → length words ≡ 6 → hasForm words ≡ true → formLength ≤ length form → Encodes words form form′ r
+encoded : {words form form′ : List ℕ} {r : ℕ} → length words ≡ 8 → hasForm words ≡ true → formLength ≤ length form → Encodes words form form′ r
     → (r ≡ formLength) × (take r form′ ≡ formOf words)
-encoded {words} {form} {form′} {r} six f h e =
+encoded {words} {form} {form′} {r} eight f h e =
     let long : r ≡ formLength = rw f at (e .answer) in
     let there : form′ ≡ formOf words ++ drop formLength form = rw (f, le-leb formLength (length form) h) at (e .memory) in
-    (long, rw (long, there) (take-at (formOf words) (drop formLength form) formLength (form-length words six)))
+    (long, rw (long, there) (take-at (formOf words) (drop formLength form) formLength (form-length words eight)))
 
 -- Written into memory with room for it, and read from there.
 pub decode-encoded : {words form form′ saved saved′ : List ℕ} {r r′ : ℕ} → Words words → hasForm words ≡ true → formLength ≤ length form
     → Encodes words form form′ r → Decodes (readForm (take r form′)) saved saved′ r′ → (r ≡ formLength) × (r′ ≡ 0) × (saved′ ≡ words)
 decode-encoded {words} {saved = saved} w f h e d =
-    let there = encoded (w .six) f h e in
-    let back = ap readForm (there .1) ∙ read-written words w ∙ ap (λ (t : Bool). cond t (reads words) (refused offset)) f in
+    let there = encoded (w .eight) f h e in
+    let back = ap readForm (there .1) ∙ read-written words w f in
     (there .0, d .answer ∙ ap answerOf back, d .words ∙ ap (λ (o : Read). wordsAfter o saved) back)
 
 -- Read, and written into memory with room for it.
@@ -137,5 +187,5 @@ encode-decoded {form} {saved} {words} {memory} {memory′} {r} b d e h = go (rea
     go (refused reason) s a v = absurd (omega arith)
     go (reads read) s a v =
         let k = written-read form words b (s ∙ ap reads (sym v)) in
-        let there = encoded (k .fits .six) (k .has-form) h e in
+        let there = encoded (k .fits .eight) (k .has-form) h e in
         (there .0 ∙ sym (k .long), there .1 ∙ k .written)

@@ -5,16 +5,17 @@ use mathlib.Core.Bool.{cond, _&&_}
 use mathlib.Core.List.{List, _++_}
 use lib.Dec.{leb}
 use lib.ListN.{length, drop}
-use Rattle.common.specs.Forms.{offset, refusalWord}
-use Rattle.clock_form.specs.Form.{formLength, hasForm, formOf, Read, refused, reads}
+use Rattle.common.specs.Forms.{refusalWord}
+use Rattle.clock_form.specs.Form.{formLength, hasForm, whyNone, formOf, Read, refused, reads}
 
--- ---- Writing: how long the form is. It is written where it has room, and what lies behind it stays.
+-- ---- Writing
 
+-- `encode` promises: how long the form is, or why there is none; and the form where it has room, with all behind it as it was.
 pub record Encodes (words form form′ : List ℕ) (r : ℕ) : Type 0 where
-  pub answer : r ≡ cond (hasForm words) formLength (refusalWord offset)
+  pub answer : r ≡ cond (hasForm words) formLength (refusalWord (whyNone words))
   pub memory : form′ ≡ cond (hasForm words && leb formLength (length form)) (formOf words ++ drop formLength form) form
 
--- ---- Reading: 0, or why not. A refusal leaves the words as they were.
+-- ---- Reading
 
 abbrev pub answerOf : Read → ℕ
 answerOf (refused reason) = refusalWord reason
@@ -24,6 +25,7 @@ abbrev pub wordsAfter : Read → List ℕ → List ℕ
 wordsAfter (refused reason) saved = saved
 wordsAfter (reads words) saved = words
 
+-- `decode` promises: 0 and the clock, or why not and the words as they were.
 pub record Decodes (o : Read) (saved saved′ : List ℕ) (r : ℕ) : Type 0 where
   pub answer : r ≡ answerOf o
   pub words : saved′ ≡ wordsAfter o saved

@@ -1,4 +1,4 @@
--- A saved clock as bytes: a version of two bytes, then the six words of four bytes each. The lowest byte of a number is its first.
+-- A saved clock as bytes: a version of two bytes, then its words but the spare ones, four bytes each. The lowest byte of a number is its first.
 use Prim.Native.Nat.{ℕ, _^_}
 use mathlib.Core.Bool.{Bool, cond, _&&_}
 use mathlib.Core.List.{List, [], _∷_, _++_}
@@ -7,8 +7,8 @@ use lib.IntN.{ℤ, pos, negℤ}
 use lib.ListN.{length, take, drop}
 use lib.Signed.{leZ, ltZ}
 use Rattle.common.specs.Bytes.{bytesOf, valueOf}
-use Rattle.common.specs.Forms.{Reason, tooShort, trailing, version, offset}
-use Rattle.clock.specs.Layout.{clockOf}
+use Rattle.common.specs.Forms.{Reason, tooShort, trailing, version, offset, spare}
+use Rattle.clock.specs.Layout.{clockOf, spareIsZero}
 
 -- The version that is written, and the only one that is read.
 abbrev pub current : ℕ
@@ -18,13 +18,20 @@ current = 1
 abbrev pub formLength : ℕ
 formLength = 26
 
--- ---- The offsets that have a form: those of 33 signed bits
+-- ---- The clocks that have a form: an offset of 33 signed bits, and spare words that are 0
 
 abbrev pub within33 : ℤ → Bool
 within33 z = leZ (negℤ (pos (2 ^ 32))) z && ltZ z (pos (2 ^ 32))
 
+unfoldable pub offsetFits : List ℕ → Bool
+offsetFits words = within33 (clockOf words .ahead)
+
 unfoldable pub hasForm : List ℕ → Bool
-hasForm words = within33 (clockOf words .ahead)
+hasForm words = offsetFits words && spareIsZero words
+
+-- Why another has none.
+unfoldable pub whyNone : List ℕ → Reason
+whyNone words = cond (offsetFits words) spare offset
 
 -- ---- Writing
 
@@ -33,7 +40,7 @@ bytesOfWords [] = []
 bytesOfWords (word ∷ words) = bytesOf 4 word ++ bytesOfWords words
 
 unfoldable pub formOf : List ℕ → List ℕ
-formOf words = bytesOf 2 current ++ bytesOfWords words
+formOf words = bytesOf 2 current ++ bytesOfWords (take 6 words)
 
 -- ---- Reading
 
@@ -49,14 +56,14 @@ abbrev pub wordAt : List ℕ → ℕ → ℕ
 wordAt form place = valueOf (take 4 (drop place form))
 
 unfoldable pub wordsIn : List ℕ → List ℕ
-wordsIn form = wordAt form 2 ∷ wordAt form 6 ∷ wordAt form 10 ∷ wordAt form 14 ∷ wordAt form 18 ∷ wordAt form 22 ∷ []
+wordsIn form = wordAt form 2 ∷ wordAt form 6 ∷ wordAt form 10 ∷ wordAt form 14 ∷ wordAt form 18 ∷ wordAt form 22 ∷ 0 ∷ 0 ∷ []
 
 -- A form of the current version.
 unfoldable pub readCurrent : List ℕ → Read
 readCurrent form =
     cond (ltb (length form) formLength) (refused tooShort)
     (cond (ltb formLength (length form)) (refused trailing)
-    (cond (hasForm (wordsIn form)) (reads (wordsIn form))
+    (cond (offsetFits (wordsIn form)) (reads (wordsIn form))
     (refused offset)))
 
 unfoldable pub readForm : List ℕ → Read

@@ -5,8 +5,8 @@ use mathlib.Core.Bool.{true, false}
 use mathlib.Core.List.{List}
 use lib.ListN.{length}
 use Rattle.common.specs.Forms.{tooShort, trailing, version, offset}
-use Rattle.clock.specs.Runs.{Words}
-use Rattle.clock_form.specs.Form.{current, formLength, hasForm, formOf, Read, refused, reads, versionIn, wordsIn}
+use Rattle.clock.specs.Layout.{Words}
+use Rattle.clock_form.specs.Form.{current, formLength, offsetFits, hasForm, formOf, Read, refused, reads, versionIn, wordsIn}
 
 -- There is a version, and it is the current one.
 pub record Known (form : List ℕ) : Type 0 where
@@ -18,8 +18,8 @@ pub data Comes (form : List ℕ) : Read → Type 0 where
   otherVersion : 2 ≤ length form → (versionIn form ≡ current → ⊥) → Comes form (refused version)
   cutOff : Known form → length form < formLength → Comes form (refused tooShort)
   leftOver : Known form → formLength < length form → Comes form (refused trailing)
-  tooFar : Known form → length form ≡ formLength → hasForm (wordsIn form) ≡ false → Comes form (refused offset)
-  whole : Known form → length form ≡ formLength → hasForm (wordsIn form) ≡ true → Comes form (reads (wordsIn form))
+  tooFar : Known form → length form ≡ formLength → offsetFits (wordsIn form) ≡ false → Comes form (refused offset)
+  whole : Known form → length form ≡ formLength → offsetFits (wordsIn form) ≡ true → Comes form (reads (wordsIn form))
 
 -- What was read is a clock that has a form, and this is it.
 pub record ReadFrom (form words : List ℕ) : Type 0 where

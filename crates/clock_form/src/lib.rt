@@ -1,12 +1,16 @@
-// A saved clock as bytes, and back: a version and six numbers, lowest byte first.
+// A saved clock as bytes, and back: a version and six numbers, lowest byte first. The spare words have no place in it.
 use clock::AHEAD_HIGH;
 use clock::AHEAD_LOW;
+use clock::Clock;
 use clock::LOAD;
 use clock::MASK;
 use clock::MATCH;
 use clock::RAW_STATUS;
+use clock::SPARE_FIRST;
+use clock::SPARE_LAST;
+use clock::eight_words;
 use clock::number;
-use clock::six;
+use clock::spare_is_zero;
 ghost use mathlib.Core.Path.{_≡_};
 ghost use Prim.Native.Nat.{_+_, _≤_};
 ghost use lib.ListN.{length};
@@ -31,6 +35,8 @@ const TRAILING: u32 = 0x1_0002;
 const VERSION: u32 = 0x1_0003;
 
 const OFFSET: u32 = 0x1_0005;
+
+const SPARE: u32 = 0x1_0006;
 
 // ---- Numbers among bytes
 
@@ -74,11 +80,11 @@ fn put_version(form: &mut [u8])
     form[1] = 0;
 }
 
-fn write(saved: &[u32; 6], form: &mut [u8])
+fn write(saved: &Clock, form: &mut [u8])
     requires { ⌜ formLength ≤ length (now form) ⌝ }
     ensures { λ r. ⌜ now (form .exit) ≡ sets (now (form .entry)) 0 (formOf (now (saved .entry))) ⌝ }
 {
-    six(saved);
+    eight_words(saved);
     put_version(form);
     put_word(form, 2, saved[LOAD]);
     put_word(form, 6, saved[MATCH]);
@@ -89,12 +95,15 @@ fn write(saved: &[u32; 6], form: &mut [u8])
 }
 
 // Answers how many bytes the form has, and writes it where it has room.
-pub fn encode(saved: &[u32; 6], form: &mut [u8]) -> u32
+pub fn encode(saved: &Clock, form: &mut [u8]) -> u32
     ensures { λ r. ⌜ Encodes (now (saved .entry)) (now (form .entry)) (now (form .exit)) r ⌝ }
 {
-    six(saved);
+    eight_words(saved);
     if !has_33_bits(saved[AHEAD_LOW], saved[AHEAD_HIGH]) {
         return OFFSET;
+    }
+    if !spare_is_zero(saved) {
+        return SPARE;
     }
     if form.len() < LENGTH {
         return LENGTH as u32;
@@ -105,21 +114,23 @@ pub fn encode(saved: &[u32; 6], form: &mut [u8]) -> u32
 
 // ---- Reading
 
-fn read(form: &[u8], saved: &mut [u32; 6])
+fn read(form: &[u8], saved: &mut Clock)
     requires { ⌜ length (now form) ≡ formLength ⌝ }
     ensures { λ r. ⌜ now (saved .exit) ≡ wordsIn (now (form .entry)) ⌝ }
 {
-    six(saved);
+    eight_words(saved);
     saved[LOAD] = word(form, 2);
     saved[MATCH] = word(form, 6);
     saved[MASK] = word(form, 10);
     saved[RAW_STATUS] = word(form, 14);
     saved[AHEAD_LOW] = word(form, 18);
     saved[AHEAD_HIGH] = word(form, 22);
+    saved[SPARE_FIRST] = 0;
+    saved[SPARE_LAST] = 0;
 }
 
 // Answers 0, or why the form is refused.
-pub fn decode(form: &[u8], saved: &mut [u32; 6]) -> u32
+pub fn decode(form: &[u8], saved: &mut Clock) -> u32
     ensures { λ r. ⌜ Decodes (readForm (now (form .entry))) (now (saved .entry)) (now (saved .exit)) r ⌝ }
 {
     let length = form.len();

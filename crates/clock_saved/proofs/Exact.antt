@@ -1,19 +1,25 @@
 -- Every clock that is `Reachable` is reached by a run from a fresh one: the definition says neither too little nor too much.
 -- Assumes nothing.
-use mathlib.Core.Path.{_≡_, refl, ap, subst, _∙_}
+use mathlib.Core.Path.{_≡_, refl, sym, ap, subst, _∙_}
 use mathlib.Core.List.{List, [], _∷_}
 use mathlib.Core.Logic.{_↔_}
-use Prim.Native.Nat.{ℕ, _^_, _<_}
+use Prim.Native.Nat.{ℕ, _%_, _^_, _<_}
 use native.Mathlib.Nat.{mod-eq-of-lt}
 use native.Mathlib.Omega.{arith}
 use lib.Dec.{lit<}
 use lib.IntN.{pos, _-ℤ_}
+use lib.ListN.{set}
 use Rattle.common.specs.Bytes.{bytesOf}
 use Rattle.common.proofs.Bytes.{bytes-length, bytes-small, value-of-bytes}
 use Rattle.clock.specs.Registers.{Clock, fresh, becomes, withMr, withLr, withImsc, writeOf}
-use Rattle.clock.specs.Runs.{Access, write, next, after, All}
+use Rattle.clock.specs.Layout.{signed, clockOf, spareOf, spareIsZero, Inits, Writes}
+use Rattle.clock.specs.Runs.{Access, write, next, after, All, Result, answers, Called, none, then}
 use Rattle.clock.proofs.Registers.{writes-mr, writes-lr, writes-imsc}
-use Rattle.clock_saved.specs.Reachable.{Fits, InRange, Reached, Reachable}
+use Rattle.clock.proofs.Stores.{stores-mr, stores-imsc}
+use Rattle.clock.proofs.Spare.{spare-zero, same-spare}
+use Rattle.clock.proofs.Steps.{changes, sets}
+use Rattle.clock.proofs.Words.{as-defined, spare-stays}
+use Rattle.clock_saved.specs.Reachable.{Fits, InRange, Reached, Reachable, ReachedWords, ReachableWords}
 use Rattle.clock_saved.proofs.Reachable.{fresh-reachable, run-reachable}
 
 -- ---- A write of a number
@@ -63,3 +69,68 @@ reached c k =
 -- .. so the two say the same.
 pub exact : (c : Clock) → Reachable c ↔ Reached c
 exact c = (reached c, λ r. subst Reachable (r .2) (run-reachable fresh (r .0) (r .1) fresh-reachable))
+
+-- ---- The same of words in memory
+
+-- The words of a fresh clock, and what the first two calls leave of them.
+abbrev made : List ℕ
+made = 0 ∷ 0 ∷ 0 ∷ 0 ∷ 0 ∷ 0 ∷ 0 ∷ 0 ∷ []
+
+made-fresh : Inits made
+unfolding clockOf signed spareIsZero fresh
+made-fresh = record { clock = refl; spare = refl }
+
+writes-then : {words words′ words″ : List ℕ} {rest : List Access} {rs : List Result} (time offset v : ℕ) → v < 2 ^ 32
+    → Writes (writeOf (clockOf words) time offset v) words words′ 0 → Called words′ rest words″ rs
+    → Called words (write time offset (bytesOf 4 v) ∷ rest) words″ (answers v ∷ rs)
+writes-then {words} {words′} time offset v h w more =
+    then {words = words} {words′ = words′} {a = write time offset (bytesOf 4 v)} {r = answers v} (refl, rw (value-of-bytes 4 v h) w) more
+
+module _ (words : List ℕ) (k : ReachableWords words) where
+  abbrev c : Clock
+  c = clockOf words
+
+  abbrev second : ℕ
+  second = k .clock .set .0
+
+  abbrev matched : List ℕ
+  matched = set made 1 (c .mr)
+
+  abbrev masked : List ℕ
+  masked = set matched 2 (c .imsc % 2)
+
+  -- The third call leaves the rest.
+  left : Writes (becomes (withLr (clockOf masked) (c .lr) (c .ahead))) masked words 0
+  unfolding clockOf spareOf
+  left = record { clock = rw (mod-eq-of-lt (k .clock .imsc), k .clock .ris); spare = spare-zero words (k .spare); answer = refl }
+
+  called : Called made (way (c .mr) (c .imsc) (c .lr) second) words (answers (c .mr) ∷ answers (c .imsc) ∷ answers (c .lr) ∷ [])
+  unfolding way
+  called =
+      writes-then 0 0x004 (c .mr) (k .clock .mr) (changes (writes-mr (clockOf made) 0 0x004 (c .mr) refl) (stores-mr made refl (c .mr)))
+      (writes-then 0 0x010 (c .imsc) (omega (arith, k .clock .imsc))
+      (changes (writes-imsc (clockOf matched) 0 0x010 (c .imsc) refl) (stores-imsc matched refl (c .imsc % 2)))
+      (writes-then second 0x008 (c .lr) (k .clock .lr)
+      (sets masked second 0x008 (c .lr) refl (sym (mod-eq-of-lt (k .clock .set .1))) (k .clock .set .2) left)
+      none))
+
+pub words-exact : (words : List ℕ) → ReachableWords words ↔ ReachedWords words
+words-exact words = (come, only)
+  where
+    come : ReachableWords words → ReachedWords words
+    come k = let c = clockOf words in record {
+      made = made;
+      run = way (c .mr) (c .imsc) (c .lr) (k .clock .set .0);
+      results = answers (c .mr) ∷ answers (c .imsc) ∷ answers (c .lr) ∷ [];
+      inits = made-fresh;
+      in-range = way-in-range _ _ _ _ (k .clock .set .1);
+      called = called words k;
+    }
+
+    only : ReachedWords words → ReachableWords words
+    only r =
+        let comes : clockOf words ≡ after fresh (r .run) = as-defined (r .called) .1 ∙ ap (λ (c : Clock). after c (r .run)) (r .inits .clock) in
+        record {
+          clock = rw comes (run-reachable fresh (r .run) (r .in-range) fresh-reachable);
+          spare = same-spare words (r .made) (spare-stays (r .called)) ∙ r .inits .spare;
+        }

@@ -5,16 +5,15 @@ use mathlib.Core.Bool.{true}
 use mathlib.Core.List.{List}
 use Prim.Native.Nat.{ℕ}
 use native.Mathlib.Omega.{arith}
-use Rattle.clock.specs.Registers.{Clock, fresh}
+use Rattle.clock.specs.Registers.{Clock}
 use Rattle.clock.specs.Layout.{clockOf}
-use Rattle.clock.specs.Runs.{Access, Result, after, results, All, Called}
+use Rattle.clock.specs.Runs.{Access, Result, after, results, Called}
 use Rattle.clock.proofs.Words.{same-for-ever}
-use Rattle.clock_saved.specs.Reachable.{InRange, Reached, Reachable}
+use Rattle.clock_saved.specs.Reachable.{ReachedWords, ReachableWords}
 use Rattle.clock_saved.specs.Saved.{restoreAnswer, Restores}
-use Rattle.clock_saved.proofs.Reachable.{fresh-reachable, run-reachable}
-use Rattle.clock_saved.proofs.Exact.{exact}
+use Rattle.clock_saved.proofs.Exact.{words-exact}
 
--- Restore, then save: the same six words, whatever they are.
+-- Restore, then save: the same eight words, whatever they are.
 pub save-after-restore : {saved clock again : List ℕ} {r : ℕ} → Restores saved clock r → again ≡ clock → again ≡ saved
 save-after-restore p s = s ∙ p .words
 
@@ -38,15 +37,15 @@ module _ {clock saved other : List ℕ} {r : ℕ} (s : saved ≡ clock) (p : Res
   same-calls = same-for-ever same-clock
 
   -- A reachable clock is restored as one, and told to be one.
-  pub reachable-again : Reachable (clockOf clock) → Reachable (clockOf other) × (r ≡ restoreAnswer true)
-  reachable-again k = (rw same-clock k, p .answer ∙ ap restoreAnswer (p .told .1 (rw s k)))
+  pub reachable-again : ReachableWords clock → ReachableWords other × (r ≡ restoreAnswer true)
+  reachable-again k = (rw restore-after-save k, p .answer ∙ ap restoreAnswer (p .told .1 (rw s k)))
 
-  -- So does whatever a run from a fresh clock came to,
-  pub told-of-runs : (run : List Access) → All InRange run → clockOf clock ≡ after fresh run → r ≡ restoreAnswer true
-  told-of-runs run f e = reachable-again (rw e (run-reachable fresh run f fresh-reachable)) .1
+  -- So is whatever calls on a fresh clock came to,
+  pub told-of-runs : ReachedWords clock → r ≡ restoreAnswer true
+  told-of-runs k = reachable-again (words-exact clock .1 k) .1
 
--- and where it is denied no run comes to what was restored.
-pub denied-rightly : {saved clock : List ℕ} → Restores saved clock 0 → Reached (clockOf clock) → ⊥
+-- and where it is denied no calls come to what was restored.
+pub denied-rightly : {saved clock : List ℕ} → Restores saved clock 0 → ReachedWords clock → ⊥
 denied-rightly {saved} {clock} p k =
-    let so : p .reachable ≡ true = p .told .1 (exact (clockOf saved) .1 (rw (p .words) at k)) in
+    let so : p .reachable ≡ true = p .told .1 (words-exact saved .1 (rw (p .words) at k)) in
     omega (arith, p .answer ∙ ap restoreAnswer so)

@@ -1,12 +1,14 @@
 -- The clocks that runs from a fresh one reach.
 use Prim.Native.Nat.{ℕ, _^_, _<_}
 use mathlib.Core.Path.{_≡_}
+use mathlib.Core.Bool.{true}
 use mathlib.Core.List.{List}
 use lib.IntN.{ℤ, pos, _-ℤ_}
 use lib.ListN.{length}
 use Rattle.common.specs.Bytes.{Bytes}
 use Rattle.clock.specs.Registers.{Clock, fresh}
-use Rattle.clock.specs.Runs.{Access, read, write, after, All}
+use Rattle.clock.specs.Layout.{clockOf, spareIsZero, Inits}
+use Rattle.clock.specs.Runs.{Access, read, write, after, All, Result, Called}
 
 -- What a call can be lent: a time of 64 bits, an offset of 16, and four bytes.
 pub record Fits (time offset : ℕ) (bytes : List ℕ) : Type 0 where
@@ -36,3 +38,19 @@ pub record Reachable (c : Clock) : Type 0 where
   pub imsc : c .imsc < 2
   pub ris : c .ris ≡ 0
   pub set : ShowedAt (c .ahead) (c .lr)
+
+-- ---- In memory
+
+-- Some calls on words that were made a fresh clock leave these.
+pub record ReachedWords (words : List ℕ) : Type 0 where
+  pub made : List ℕ
+  pub run : List Access
+  pub results : List Result
+  pub inits : Inits made
+  pub in-range : All InRange run
+  pub called : Called made run words results
+
+-- The same as `ReachedWords`, said of the words: their clock is reachable, and the spare ones are 0.
+pub record ReachableWords (words : List ℕ) : Type 0 where
+  pub clock : Reachable (clockOf words)
+  pub spare : spareIsZero words ≡ true

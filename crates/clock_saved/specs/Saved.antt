@@ -1,11 +1,10 @@
--- A clock saved and restored: its six words. Any six words are restored, and the answer says whether they are reachable.
+-- A clock saved and restored: its eight words. Any eight words are restored, and the answer says whether they are reachable.
 use Prim.Native.Nat.{ℕ}
 use mathlib.Core.Path.{_≡_}
 use mathlib.Core.Bool.{Bool, true, cond}
 use mathlib.Core.List.{List}
 use mathlib.Core.Logic.{_↔_}
-use Rattle.clock.specs.Layout.{clockOf}
-use Rattle.clock_saved.specs.Reachable.{Reachable}
+use Rattle.clock_saved.specs.Reachable.{ReachableWords}
 
 -- The answer: this where a run from a fresh clock could have come to the words, else 0.
 abbrev pub restoreAnswer : Bool → ℕ
@@ -15,5 +14,5 @@ restoreAnswer reachable = cond reachable 0x4_0000 0
 pub record Restores (saved clock : List ℕ) (r : ℕ) : Type 0 where
   pub words : clock ≡ saved
   pub reachable : Bool
-  pub told : (reachable ≡ true) ↔ Reachable (clockOf saved)
+  pub told : (reachable ≡ true) ↔ ReachableWords saved
   pub answer : r ≡ restoreAnswer reachable

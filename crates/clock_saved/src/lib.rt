@@ -1,38 +1,34 @@
-// A clock is saved and restored: its six words. Any six words are some clock, so every one is restored; the answer says whether a
-// run from a fresh clock could have come to them.
+// A clock is saved and restored: its eight words. Any eight words are some clock, so every one is restored; the answer says
+// whether a run from a fresh clock could have come to them.
 use clock::AHEAD_HIGH;
 use clock::AHEAD_LOW;
+use clock::Clock;
 use clock::LOAD;
 use clock::MASK;
 use clock::RAW_STATUS;
+use clock::eight_words;
 use clock::join;
+use clock::spare_is_zero;
 ghost use mathlib.Core.Path.{_≡_};
 ghost use mathlib.Core.Bool.{true};
 ghost use mathlib.Core.Logic.{_↔_};
-ghost use Rattle.clock.specs.Layout.{joined, signed, clockOf};
-ghost use Rattle.clock.specs.Runs.{Words};
-ghost use Rattle.clock_saved.specs.Reachable.{ShowedAt, Reachable};
+ghost use Rattle.clock.specs.Layout.{joined, signed};
+ghost use Rattle.clock_saved.specs.Reachable.{ShowedAt, ReachableWords};
 ghost use Rattle.clock_saved.specs.Saved.{Restores};
 
-// Six words are six, of 32 bits each: a call that tells a proof so, and compiles to nothing. To read one of a slice tells of all.
-fn six_words(x: &[u32; 6])
-    ensures { λ r. ⌜ Words (now (x .entry)) ⌝ }
-{
-    let s: &[u32] = x;
-    let first = s[0];
-}
-
-fn copy(from: &[u32; 6], to: &mut [u32; 6])
+fn copy(from: &Clock, to: &mut Clock)
     ensures { λ r. ⌜ now (to .exit) ≡ now (from .entry) ⌝ }
 {
-    six_words(from);
-    six_words(to);
+    eight_words(from);
+    eight_words(to);
     to[0] = from[0];
     to[1] = from[1];
     to[2] = from[2];
     to[3] = from[3];
     to[4] = from[4];
     to[5] = from[5];
+    to[6] = from[6];
+    to[7] = from[7];
 }
 
 // Whether a clock that is so far ahead showed `value` at some second of 32 bits. Two's complement wraps, so that second is the
@@ -47,14 +43,17 @@ fn showed(value: u32, low: u32, high: u32) -> bool
     false
 }
 
-fn is_reachable(saved: &[u32; 6]) -> bool
-    ensures { λ r. ⌜ (r ≡ true) ↔ Reachable (clockOf (now (saved .entry))) ⌝ }
+fn is_reachable(saved: &Clock) -> bool
+    ensures { λ r. ⌜ (r ≡ true) ↔ ReachableWords (now (saved .entry)) ⌝ }
 {
-    six_words(saved);
+    eight_words(saved);
     if saved[MASK] > 1 {
         return false;
     }
     if saved[RAW_STATUS] != 0 {
+        return false;
+    }
+    if !spare_is_zero(saved) {
         return false;
     }
     showed(saved[LOAD], saved[AHEAD_LOW], saved[AHEAD_HIGH])
@@ -66,14 +65,14 @@ fn is_reachable(saved: &[u32; 6]) -> bool
 const REACHABLE: u32 = 0x4_0000;
 
 // Copies the clock.
-pub fn save(clock: &[u32; 6], saved: &mut [u32; 6])
+pub fn save(clock: &Clock, saved: &mut Clock)
     ensures { λ r. ⌜ now (saved .exit) ≡ now (clock .entry) ⌝ }
 {
     copy(clock, saved);
 }
 
 // Copies the clock back. REACHABLE: a run from a fresh clock could have come to it.
-pub fn restore(clock: &mut [u32; 6], saved: &[u32; 6]) -> u32
+pub fn restore(clock: &mut Clock, saved: &Clock) -> u32
     ensures { λ r. ⌜ Restores (now (saved .entry)) (now (clock .exit)) r ⌝ }
 {
     copy(saved, clock);

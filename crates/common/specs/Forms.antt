@@ -2,7 +2,7 @@
 use Prim.Native.Nat.{ℕ, _+_}
 
 pub data Reason : Type 0 where
-  tooShort trailing version tooMany offset : Reason
+  tooShort trailing version tooMany offset spare : Reason
 
 abbrev pub reasonNumber : Reason → ℕ
 reasonNumber tooShort = 1
@@ -10,6 +10,7 @@ reasonNumber trailing = 2
 reasonNumber version = 3
 reasonNumber tooMany = 4
 reasonNumber offset = 5
+reasonNumber spare = 6
 
 abbrev pub refusalWord : Reason → ℕ
 refusalWord r = 0x1_0000 + reasonNumber r

@@ -5,8 +5,8 @@ use borrow.Author.Needs.{needs}
 use Rattle.clock.proofs.adjust.Statement.{statement}
 use Rattle.clock.proofs.adjust.Tie as tie
 
-six-requires : tie.Need-six-requires
-six-requires c κs = search needs
+eight-words-requires : tie.Need-eight-words-requires
+eight-words-requires c κs = search needs
 
 element-write-clock : tie.Need-element-write-clock
 element-write-clock c = search needs
@@ -24,13 +24,13 @@ element-write-clock-3 : tie.Need-element-write-clock-3
 element-write-clock-3 c = search needs
 
 returns : tie.Need-returns
-returns c = let a = c .before .before .args in stores-lr (a .clock .now) (c .six .ensures) (a .load) (a .ahead)
+returns c = let a = c .before .before .args in stores-lr (a .clock .now) (c .eight-words .ensures .eight) (a .load) (a .ahead)
 
 pub adjust-spec : {M : Type 1} → statement M
 adjust-spec =
     tie.close
     (tie.spec
-    six-requires
+    eight-words-requires
     element-write-clock
     cast-clock
     element-write-clock-2

@@ -8,8 +8,8 @@ use borrow.Author.Needs.{needs}
 use Rattle.clock.proofs.write.Statement.{statement}
 use Rattle.clock.proofs.write.Tie as tie
 
-six-requires : tie.Need-six-requires
-six-requires c κs = search needs
+eight-words-requires : tie.Need-eight-words-requires
+eight-words-requires c κs = search needs
 
 value-of-requires : tie.Need-value-of-requires
 value-of-requires c κs = search needs
@@ -21,8 +21,8 @@ returns : tie.Need-returns
 returns c =
     let a = c .before .before .before .before .args in
     let v = c .before .value-of in
-    let six = c .before .before .six .ensures in
-    rw (← (v .ensures)) (changes (writes-mr (clockOf (a .clock .now)) (a .time) (a .offset) (v .result) (c .match .keys1)) (stores-mr (a .clock .now) six (v .result)))
+    let eight = c .before .before .eight-words .ensures .eight in
+    rw (← (v .ensures)) (changes (writes-mr (clockOf (a .clock .now)) (a .time) (a .offset) (v .result) (c .match .keys1)) (stores-mr (a .clock .now) eight (v .result)))
 
 seconds-requires : tie.Need-seconds-requires
 seconds-requires c κs = search needs
@@ -61,8 +61,8 @@ returns-5 : tie.Need-returns-5
 returns-5 c =
     let a = c .before .before .before .before .args in
     let v = c .before .value-of in
-    let six = c .before .before .six .ensures in
-    rw (← (v .ensures)) (changes (writes-imsc (clockOf (a .clock .now)) (a .time) (a .offset) (v .result) (c .match .keys4)) (stores-imsc (a .clock .now) six _))
+    let eight = c .before .before .eight-words .ensures .eight in
+    rw (← (v .ensures)) (changes (writes-imsc (clockOf (a .clock .now)) (a .time) (a .offset) (v .result) (c .match .keys4)) (stores-imsc (a .clock .now) eight _))
 
 element-copy-out-clock : tie.Need-element-copy-out-clock
 element-copy-out-clock c = search needs
@@ -75,8 +75,8 @@ unfolding clockOf
 returns-6 c =
     let a = c .before .before .before .before .before .args in
     let v = c .before .before .value-of in
-    let six = c .before .before .before .six .ensures in
-    rw (← (v .ensures)) (changes (writes-icr (clockOf (a .clock .now)) (a .time) (a .offset) (v .result) (c .before .match .keys5)) (stores-ris (a .clock .now) six _))
+    let eight = c .before .before .before .eight-words .ensures .eight in
+    rw (← (v .ensures)) (changes (writes-icr (clockOf (a .clock .now)) (a .time) (a .offset) (v .result) (c .before .match .keys5)) (stores-ris (a .clock .now) eight _))
 
 returns-7 : tie.Need-returns-7
 returns-7 c =
@@ -88,7 +88,7 @@ pub write-spec : {M : Type 1} → statement M
 write-spec =
     tie.close
     (tie.spec
-    six-requires
+    eight-words-requires
     value-of-requires
     element-write-clock
     returns

@@ -1,12 +1,12 @@
--- `read` meets its contract. Six stores are the six words.
+-- `read` meets its contract. Eight stores are the eight words.
 -- Assumes nothing.
 use Rattle.clock_form.proofs.Numbers.{reads-words}
 use borrow.Author.Needs.{needs}
 use Rattle.clock_form.proofs.read.Statement.{statement}
 use Rattle.clock_form.proofs.read.Tie as tie
 
-six-requires : tie.Need-six-requires
-six-requires c κs = search needs
+eight-words-requires : tie.Need-eight-words-requires
+eight-words-requires c κs = search needs
 
 word-requires : tie.Need-word-requires
 word-requires c κs = search needs
@@ -44,18 +44,25 @@ word-requires-6 c κs = search needs
 element-write-saved-6 : tie.Need-element-write-saved-6
 element-write-saved-6 c = search needs
 
+element-write-saved-7 : tie.Need-element-write-saved-7
+element-write-saved-7 c = search needs
+
+element-write-saved-8 : tie.Need-element-write-saved-8
+element-write-saved-8 c = search needs
+
 returns : tie.Need-returns
 returns c =
     let first = c .before .before .before .before .before in
     let a = first .before .before .before .before .args in
-    reads-words (a .form .now) (a .saved .now) (first .before .six .ensures) (first .word .ensures) (c .before .before .before .before .word2 .ensures)
-    (c .before .before .before .word3 .ensures) (c .before .before .word4 .ensures) (c .before .word5 .ensures) (c .word6 .ensures)
+    reads-words (a .form .now) (a .saved .now) (first .before .eight-words .ensures .eight) (first .word .ensures)
+    (c .before .before .before .before .word2 .ensures) (c .before .before .before .word3 .ensures) (c .before .before .word4 .ensures)
+    (c .before .word5 .ensures) (c .word6 .ensures)
 
 pub read-spec : {M : Type 1} → statement M
 read-spec =
     tie.close
     (tie.spec
-    six-requires
+    eight-words-requires
     word-requires
     element-write-saved
     word-requires-2
@@ -68,4 +75,6 @@ read-spec =
     element-write-saved-5
     word-requires-6
     element-write-saved-6
+    element-write-saved-7
+    element-write-saved-8
     returns)

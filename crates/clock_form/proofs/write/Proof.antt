@@ -5,8 +5,8 @@ use borrow.Author.Needs.{needs}
 use Rattle.clock_form.proofs.write.Statement.{statement}
 use Rattle.clock_form.proofs.write.Tie as tie
 
-six-requires : tie.Need-six-requires
-six-requires c κs = search needs
+eight-words-requires : tie.Need-eight-words-requires
+eight-words-requires c κs = search needs
 
 put-version-requires : tie.Need-put-version-requires
 put-version-requires c κs = search needs
@@ -59,14 +59,14 @@ returns c =
     let second = third .before .before .before .before .before in
     let first = second .before .before .before .before .before in
     let version = first .before .before .before .before .before in
-    writes _ _ (version .before .before .six .ensures) (version .put-version .ensures) (first .put-word .ensures) (second .put-word2 .ensures)
+    writes _ _ (version .before .before .eight-words .ensures .eight) (version .put-version .ensures) (first .put-word .ensures) (second .put-word2 .ensures)
     (third .put-word3 .ensures) (fourth .put-word4 .ensures) (fifth .put-word5 .ensures) (sixth .put-word6 .ensures)
 
 pub write-spec : {M : Type 1} → statement M
 write-spec =
     tie.close
     (tie.spec
-    six-requires
+    eight-words-requires
     put-version-requires
     element-copy-out-put-word
     put-word-requires
