@@ -35,7 +35,7 @@ pub const SPARE_LAST: usize = 7;
 
 const VALID: u32 = 0;
 
-const REFUSED: u32 = 0x1_0000;
+pub const REFUSED: u32 = 0x1_0000;
 
 // ---- The registers' offsets, by the manual's names
 

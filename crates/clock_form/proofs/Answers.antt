@@ -1,7 +1,7 @@
 -- What each return of the code is in the definition.
 -- Assumes nothing.
 use mathlib.Core.Path.{_≡_, refl, sym, _∙_}
-use mathlib.Core.Bool.{Bool, true, false}
+use mathlib.Core.Bool.{Bool, true, false, _&&_}
 use mathlib.Core.List.{List, [], _∷_}
 use Prim.Native.Nat.{ℕ, _+_, _≤_, _<_}
 use native.Mathlib.Omega.{arith}
@@ -19,6 +19,9 @@ use Rattle.clock_form.proofs.Reading.{only-so}
 
 -- ---- Writing
 
+both : {a b s t : Bool} → a ≡ s → b ≡ t → (a && b) ≡ (s && t)
+both e f = rw (e, f)
+
 module _ (words form : List ℕ) {fits : Bool} (told : fits ≡ within33 (signed (joined (getD words 4 0) (getD words 5 0)))) where
   offset-fits : offsetFits words ≡ fits
   unfolding offsetFits clockOf
@@ -29,26 +32,28 @@ module _ (words form : List ℕ) {fits : Bool} (told : fits ≡ within33 (signed
   encode-too-far e = record { answer = rw (offset-fits, e); memory = rw (offset-fits, e) }
 
   module _ (e : fits ≡ true) {zero : Bool} (spares : zero ≡ spareIsZero words) where
+    has-form : hasForm words ≡ zero
+    unfolding hasForm
+    has-form = both (offset-fits ∙ e) (sym spares)
+
+    why-none : whyNone words ≡ spare
+    unfolding whyNone
+    why-none = rw (offset-fits, e)
+
     pub encode-spare : zero ≡ false → Encodes words form form (refusalWord spare)
-    unfolding hasForm whyNone
-    encode-spare z = record { answer = rw (offset-fits, e, ← spares, z); memory = rw (offset-fits, e, ← spares, z) }
+    encode-spare z = record { answer = rw (has-form, z, why-none); memory = rw (has-form, z) }
 
-    module _ (z : zero ≡ true) where
-      has-form : hasForm words ≡ true
-      unfolding hasForm
-      has-form = rw (offset-fits, e, ← spares, z)
+    pub encode-tells : zero ≡ true → length form < formLength → Encodes words form form formLength
+    encode-tells z h = record { answer = rw (has-form, z); memory = rw (has-form, z, lt-leb formLength (length form) h) }
 
-      pub encode-tells : length form < formLength → Encodes words form form formLength
-      encode-tells h = record { answer = rw has-form; memory = rw (has-form, lt-leb formLength (length form) h) }
-
-      pub encode-writes : length words ≡ 8 → formLength ≤ length form → {form′ : List ℕ} → form′ ≡ sets form 0 (formOf words)
-          → Encodes words form form′ formLength
-      encode-writes eight h s =
-          let room : 0 + length (formOf words) ≤ length form = omega (arith, form-length words eight) in
-          record {
-            answer = rw has-form;
-            memory = rw (s, has-form, le-leb formLength (length form) h) (rw (form-length words eight) at (sets-eq (formOf words) form 0 room));
-          }
+    pub encode-writes : zero ≡ true → length words ≡ 8 → formLength ≤ length form → {form′ : List ℕ} → form′ ≡ sets form 0 (formOf words)
+        → Encodes words form form′ formLength
+    encode-writes z eight h s =
+        let room : 0 + length (formOf words) ≤ length form = omega (arith, form-length words eight) in
+        record {
+          answer = rw (has-form, z);
+          memory = rw (s, has-form, z, le-leb formLength (length form) h) (rw (form-length words eight) at (sets-eq (formOf words) form 0 room));
+        }
 
 -- ---- Reading
 

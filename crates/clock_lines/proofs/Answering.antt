@@ -4,11 +4,12 @@ use Prim.Native.Nat.{ℕ, _+_, _≤_}
 use mathlib.Core.Path.{_≡_, refl, ap}
 use mathlib.Core.Bool.{Bool, true, false, cond}
 use mathlib.Core.List.{List, [], _∷_}
+use lib.Dec.{eqb}
 use lib.ListN.{drop}
 use Rattle.common.specs.Bytes.{valueOf}
 use Rattle.clock.specs.Registers.{readOf, writeOf}
-use Rattle.clock.specs.Layout.{clockOf, Reads, Writes}
-use Rattle.clock_saved.specs.Saved.{Restores}
+use Rattle.clock.specs.Layout.{clockOf, spareOf, Reads, Writes}
+use Rattle.clock_saved.specs.Saved.{restoreAnswer, Restores}
 use Rattle.words.specs.Decimal.{numberOf}
 use Rattle.words.specs.Pattern.{fitsOf, beginsLike}
 use Rattle.words.specs.Put.{Puts}
@@ -32,53 +33,58 @@ use Rattle.clock_lines.specs.Answers.{
   offsetIn,
   bytesIn,
   wordsIn,
+  valid,
   readSaid,
   writeSaid,
   restoreSays,
   stateSays,
 }
 
--- ---- Six words
+-- ---- Eight words
 
-pub six : {a a′ b b′ c c′ d d′ e e′ f f′ : ℕ} → a ≡ a′ → b ≡ b′ → c ≡ c′ → d ≡ d′ → e ≡ e′ → f ≡ f′ → (a ∷ b ∷ c ∷ d ∷ e ∷ f ∷ []) ≡ (a′ ∷ b′ ∷ c′ ∷ d′ ∷ e′ ∷ f′ ∷ [])
-six p q r s t u = rw (p, q, r, s, t, u) refl
+pub eight : {a a′ b b′ c c′ d d′ e e′ f f′ : ℕ} → a ≡ a′ → b ≡ b′ → c ≡ c′ → d ≡ d′ → e ≡ e′ → f ≡ f′ → (a ∷ b ∷ c ∷ d ∷ e ∷ f ∷ 0 ∷ 0 ∷ []) ≡ (a′ ∷ b′ ∷ c′ ∷ d′ ∷ e′ ∷ f′ ∷ 0 ∷ 0 ∷ [])
+eight p q r s t u = rw (p, q, r, s, t, u) refl
 
 -- ---- One access
+
+reached-told : (t : Bool) {answer : ℕ} → answer ≡ restoreAnswer t → eqb answer 0x4_0000 ≡ t
+reached-told true e = rw e
+reached-told false e = rw e
 
 -- The clocks, with the clock in other memory.
 abbrev holding : Clocks → List ℕ → Clocks
 holding clocks clock = record { clock = clock; time = clocks .time; kept = clocks .kept; keeps = clocks .keeps }
 
 module _ (clocks : Clocks) {out out′ : List ℕ} {at r : ℕ} where
-  pub reads : (offset : ℕ) {before after : List ℕ} {valid : Bool} → Reads (readOf (clockOf (clocks .clock)) (clocks .time) offset) before after valid
-      → Puts out at (readSaid after valid) out′ r → r ≤ at + 4096 → Answers (read offset before) clocks out at (record { clocks = clocks; put = r }) out′
+  pub reads : (offset : ℕ) {before after : List ℕ} {answer : ℕ} → Reads (readOf (clockOf (clocks .clock)) (clocks .time) offset) before after answer
+      → Puts out at (readSaid after (valid answer)) out′ r → r ≤ at + 4096 → Answers (read offset before) clocks out at (record { clocks = clocks; put = r }) out′
   reads offset c p h =
-      record { reached = false; tells = tt; said = rw (← c .bytes, ← c .validity) p; clock = refl; time = refl; kept = refl; keeps = refl; short = h }
+      record { reached = false; tells = tt; said = rw (← c .bytes, ← c .answer) p; clock = refl; spare = refl; time = refl; kept = refl; keeps = refl; short = h }
 
-  pub writes : (offset : ℕ) (bytes : List ℕ) {clock′ : List ℕ} {valid : Bool}
-      → Writes (writeOf (clockOf (clocks .clock)) (clocks .time) offset (valueOf bytes)) (clocks .clock) clock′ valid
-      → Puts out at (writeSaid valid) out′ r → r ≤ at + 4096 → Answers (write offset bytes) clocks out at (record { clocks = holding clocks clock′; put = r }) out′
+  pub writes : (offset : ℕ) (bytes : List ℕ) {clock′ : List ℕ} {answer : ℕ}
+      → Writes (writeOf (clockOf (clocks .clock)) (clocks .time) offset (valueOf bytes)) (clocks .clock) clock′ answer
+      → Puts out at (writeSaid (valid answer)) out′ r → r ≤ at + 4096 → Answers (write offset bytes) clocks out at (record { clocks = holding clocks clock′; put = r }) out′
   writes offset bytes c p h =
-      record { reached = false; tells = tt; said = rw (← c .validity) p; clock = c .clock; time = refl; kept = refl; keeps = refl; short = h }
+      record { reached = false; tells = tt; said = rw (← c .answer) p; clock = c .clock; spare = c .spare; time = refl; kept = refl; keeps = refl; short = h }
 
-  pub restores : {saved clock′ : List ℕ} {reached : Bool} → Restores saved clock′ reached → Puts out at (restoreSays reached) out′ r → r ≤ at + 4096
+  pub restores : {saved clock′ : List ℕ} {answer : ℕ} → Restores saved clock′ answer → Puts out at (restoreSays (eqb answer 0x4_0000)) out′ r → r ≤ at + 4096
       → Answers (restore saved) clocks out at (record { clocks = holding clocks clock′; put = r }) out′
-  restores {reached = reached} c p h =
-      record { reached = reached; tells = c .told; said = p; clock = ap clockOf (c .words); time = refl; kept = refl; keeps = refl; short = h }
+  restores c p h =
+      record { reached = c .reachable; tells = c .told; said = rw (reached-told (c .reachable) (c .answer)) at p; clock = ap clockOf (c .words); spare = ap spareOf (c .words); time = refl; kept = refl; keeps = refl; short = h }
 
   pub saves : {kept′ : List ℕ} → kept′ ≡ clocks .clock → Puts out at (stateSays (text "save") kept′) out′ r → r ≤ at + 4096
       → Answers save clocks out at (record { clocks = record { clock = clocks .clock; time = clocks .time; kept = kept′; keeps = true }; put = r }) out′
-  saves k p h = record { reached = false; tells = tt; said = rw (← k) p; clock = refl; time = refl; kept = k; keeps = refl; short = h }
+  saves k p h = record { reached = false; tells = tt; said = rw (← k) p; clock = refl; spare = refl; time = refl; kept = k; keeps = refl; short = h }
 
   pub state-shown : Puts out at (stateSays (text "state") (clocks .clock)) out′ r → r ≤ at + 4096 → Answers showState clocks out at (record { clocks = clocks; put = r }) out′
-  state-shown p h = record { reached = false; tells = tt; said = p; clock = refl; time = refl; kept = refl; keeps = refl; short = h }
+  state-shown p h = record { reached = false; tells = tt; said = p; clock = refl; spare = refl; time = refl; kept = refl; keeps = refl; short = h }
 
   pub nothing-asked : Puts out at (text "?\n") out′ r → r ≤ at + 4096 → Answers nothing clocks out at (record { clocks = clocks; put = r }) out′
-  nothing-asked p h = record { reached = false; tells = tt; said = p; clock = refl; time = refl; kept = refl; keeps = refl; short = h }
+  nothing-asked p h = record { reached = false; tells = tt; said = p; clock = refl; spare = refl; time = refl; kept = refl; keeps = refl; short = h }
 
   pub time-set : {n : Number} {t : ℕ} → Is t ≡ n → Puts out at (text "now\n") out′ r → r ≤ at + 4096
       → Answers (asksTime n) clocks out at (record { clocks = record { clock = clocks .clock; time = t; kept = clocks .kept; keeps = clocks .keeps }; put = r }) out′
-  time-set e p h = rw (← e) (record { reached = false; tells = tt; said = p; clock = refl; time = refl; kept = refl; keeps = refl; short = h })
+  time-set e p h = rw (← e) (record { reached = false; tells = tt; said = p; clock = refl; spare = refl; time = refl; kept = refl; keeps = refl; short = h })
 
   pub no-time : {n : Number} → Bad ≡ n → Puts out at (text "?\n") out′ r → r ≤ at + 4096 → Answers (asksTime n) clocks out at (record { clocks = clocks; put = r }) out′
   no-time e p h = rw (← e) (nothing-asked p h)

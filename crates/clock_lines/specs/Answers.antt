@@ -1,14 +1,15 @@
 -- The clock's lines and their answers.
 use Prim.Native.Nat.{ℕ, _+_, _*_, _≤_}
 use mathlib.Core.Path.{_≡_}
-use mathlib.Core.Bool.{Bool, true, false, cond, _||_}
+use mathlib.Core.Bool.{Bool, true, false, cond, not, _||_}
 use mathlib.Core.List.{List, [], _∷_, _++_}
 use mathlib.Core.Logic.{_↔_}
+use lib.Dec.{eqb}
 use lib.ListN.{getD, drop}
 use Rattle.common.specs.Bytes.{valueOf}
 use Rattle.clock.specs.Registers.{Clock, Reply, Change, readOf, writeOf}
-use Rattle.clock.specs.Layout.{clockOf, bytesAfter, readValid, clockAfter, writeValid}
-use Rattle.clock_saved.specs.Reachable.{Reachable}
+use Rattle.clock.specs.Layout.{clockOf, spareOf, refusal, bytesAfter, readAnswer, clockAfter, writeAnswer}
+use Rattle.clock_saved.specs.Reachable.{ReachableWords}
 use Rattle.words.specs.Decimal.{numberOf}
 use Rattle.words.specs.Hex.{byteAt, digitsOf, wordDigits}
 use Rattle.words.specs.Pattern.{fitsOf, beginsLike}
@@ -32,9 +33,9 @@ bytesIn line = byteAt line 7 ∷ byteAt line 9 ∷ byteAt line 11 ∷ byteAt lin
 abbrev pub wordAt : List ℕ → ℕ → ℕ
 wordAt line i = (byteAt line i * 0x100 + byteAt line (i + 2)) * 0x1_0000 + (byteAt line (i + 4) * 0x100 + byteAt line (i + 6))
 
--- The six words of a clock, of `restore LOAD OFFSET MATCH MASK RAW`.
+-- The words of a clock, of `restore LOAD OFFSET MATCH MASK RAW`. The spare ones are 0.
 abbrev pub wordsIn : List ℕ → List ℕ
-wordsIn line = wordAt line 8 ∷ wordAt line 34 ∷ wordAt line 43 ∷ wordAt line 52 ∷ wordAt line 25 ∷ wordAt line 17 ∷ []
+wordsIn line = wordAt line 8 ∷ wordAt line 34 ∷ wordAt line 43 ∷ wordAt line 52 ∷ wordAt line 25 ∷ wordAt line 17 ∷ 0 ∷ 0 ∷ []
 
 pub data Asks : Type 0 where
   read write : ℕ → List ℕ → Asks
@@ -70,17 +71,21 @@ asks clocks line =
 abbrev pub fourDigits : List ℕ → List ℕ
 fourDigits bytes = digitsOf (getD bytes 0 0) ++ digitsOf (getD bytes 1 0) ++ digitsOf (getD bytes 2 0) ++ digitsOf (getD bytes 3 0)
 
+-- An access is valid where it is not refused.
+abbrev pub valid : ℕ → Bool
+valid answer = not (eqb answer refusal)
+
 abbrev pub readSaid : List ℕ → Bool → List ℕ
-readSaid bytes valid = text "r " ++ fourDigits bytes ++ cond valid (text " ok\n") (text " invalid\n")
+readSaid bytes isValid = text "r " ++ fourDigits bytes ++ cond isValid (text " ok\n") (text " invalid\n")
 
 abbrev pub readSays : Reply → List ℕ → List ℕ
-readSays reply bytes = readSaid (bytesAfter reply bytes) (readValid reply)
+readSays reply bytes = readSaid (bytesAfter reply bytes) (valid (readAnswer reply))
 
 abbrev pub writeSaid : Bool → List ℕ
-writeSaid valid = cond valid (text "w ok\n") (text "w invalid\n")
+writeSaid isValid = cond isValid (text "w ok\n") (text "w invalid\n")
 
 abbrev pub writeSays : Change → List ℕ
-writeSays change = writeSaid (writeValid change)
+writeSays change = writeSaid (valid (writeAnswer change))
 
 -- After `state` or `save`: the load register, the two halves of what the clock is ahead of the host's time, the match register, the mask and the raw
 -- status.
@@ -101,9 +106,9 @@ says save clocks reached = stateSays (text "save") (clocks .clock)
 says (restore saved) clocks reached = restoreSays reached
 says nothing clocks reached = text "?\n"
 
--- What `reached` is where a clock is brought back: whether a run from a fresh one could have come to it.
+-- What `reached` is where a clock is restored: whether a run from a fresh one could have come to it.
 abbrev pub Tells : Asks → Bool → Type 0
-Tells (restore saved) reached = (reached ≡ true) ↔ Reachable (clockOf saved)
+Tells (restore saved) reached = (reached ≡ true) ↔ ReachableWords saved
 Tells (read offset bytes) reached = Unit {0}
 Tells (write offset bytes) reached = Unit {0}
 Tells (setTime t) reached = Unit {0}
@@ -121,6 +126,15 @@ clockThen showState clock time = clock
 clockThen save clock time = clock
 clockThen (restore saved) clock time = clockOf saved
 clockThen nothing clock time = clock
+
+abbrev pub spareThen : Asks → List ℕ → List ℕ
+spareThen (read offset bytes) spare = spare
+spareThen (write offset bytes) spare = spare
+spareThen (setTime t) spare = spare
+spareThen showState spare = spare
+spareThen save spare = spare
+spareThen (restore saved) spare = spareOf saved
+spareThen nothing spare = spare
 
 abbrev pub timeThen : Asks → ℕ → ℕ
 timeThen (read offset bytes) time = time
@@ -146,6 +160,7 @@ pub record Answers (asked : Asks) (clocks : Clocks) (out : List ℕ) (at : ℕ) 
   pub tells : Tells asked reached
   pub said : Puts out at (says asked clocks reached) out′ (r .put)
   pub clock : clockOf (r .clocks .clock) ≡ clockThen asked (clockOf (clocks .clock)) (clocks .time)
+  pub spare : spareOf (r .clocks .clock) ≡ spareThen asked (spareOf (clocks .clock))
   pub time : r .clocks .time ≡ timeThen asked (clocks .time)
   pub kept : r .clocks .kept ≡ cond (isSave asked) (clocks .clock) (clocks .kept)
   pub keeps : r .clocks .keeps ≡ (isSave asked || clocks .keeps)

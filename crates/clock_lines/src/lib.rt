@@ -1,6 +1,8 @@
 // The lines of the clock.
 mod saved;
 
+use clock::Clock;
+use clock::REFUSED;
 use words::Block;
 use words::decimal;
 use words::decimal::Number;
@@ -16,16 +18,12 @@ ghost use mathlib.Core.Path.{_≡_};
 ghost use mathlib.Core.Bool.{false};
 ghost use mathlib.Core.List.{_++_};
 ghost use lib.ListN.{length, drop};
-ghost use Rattle.clock.specs.Registers.{fresh};
-ghost use Rattle.clock.specs.Layout.{clockOf};
+ghost use Rattle.clock.specs.Layout.{Inits};
 ghost use Rattle.words.specs.Decimal.{numberOf};
 ghost use Rattle.words.specs.Hex.{wordDigits};
 ghost use Rattle.words.specs.Put.{Puts};
 ghost use Rattle.words.specs.Text.{text};
 ghost use Rattle.clock_lines.specs.Answers.{Answers, asks, asksTime, read, write, showState, offsetIn, bytesIn, fourDigits, readSaid, writeSaid, stateSays};
-
-// The memory of a clock.
-pub type Clock = [u32; 6];
 
 // The clock and the host's time, and the clock that was saved last, if `keeps` says that one was.
 pub struct Clocks {
@@ -46,16 +44,16 @@ pub fn start() -> Clocks
     ensures { λ r. ⌜ r .keeps ≡ false ⌝ }
 {
     Clocks {
-        clock: [0; 6],
+        clock: [0; 8],
         time: 0,
-        kept: [0; 6],
+        kept: [0; 8],
         keeps: false,
     }
 }
 
 // Makes the clock a fresh one, at the time 0, and leaves what was saved.
 pub fn begin(mut clocks: Clocks) -> Clocks
-    ensures { λ r. ⌜ (clockOf (r .clock) ≡ fresh) × (r .time ≡ 0) ⌝ }
+    ensures { λ r. ⌜ Inits (r .clock) × (r .time ≡ 0) ⌝ }
     ensures { λ r. ⌜ (r .kept ≡ clocks .kept) × (r .keeps ≡ clocks .keeps) ⌝ }
 {
     let mut clock = clocks.clock;
@@ -108,8 +106,8 @@ fn read(clocks: Clocks, offset: u16, mut bytes: [u8; 4], out: &mut Block, at: us
     ensures { λ r. ⌜ Answers (read offset bytes) clocks (now (out .entry)) at r (now (out .exit)) ⌝ }
 {
     let clock = clocks.clock;
-    let valid = clock::read(&clock, offset, clocks.time, &mut bytes);
-    let put = put_read(out, at, bytes, valid);
+    let answer = clock::read(&clock, offset, clocks.time, &mut bytes);
+    let put = put_read(out, at, bytes, answer != REFUSED);
     Said { clocks, put }
 }
 
@@ -144,9 +142,9 @@ fn write(mut clocks: Clocks, offset: u16, bytes: [u8; 4], out: &mut Block, at: u
     ensures { λ r. ⌜ Answers (write offset bytes) clocks (now (out .entry)) at r (now (out .exit)) ⌝ }
 {
     let mut clock = clocks.clock;
-    let valid = clock::write(&mut clock, offset, clocks.time, &bytes);
+    let answer = clock::write(&mut clock, offset, clocks.time, &bytes);
     clocks.clock = clock;
-    let put = put_write(out, at, valid);
+    let put = put_write(out, at, answer != REFUSED);
     Said { clocks, put }
 }
 

@@ -1,8 +1,9 @@
-// The lines that write the clock down and bring it back.
-use crate::Clock;
+// The lines that save the clock and restore it.
 use crate::Clocks;
 use crate::Said;
 use crate::state;
+use clock::Clock;
+use clock_saved::REACHABLE;
 use words::Block;
 use words::hex::byte_at;
 use words::pattern::fits;
@@ -65,13 +66,13 @@ fn restore(mut clocks: Clocks, saved: &Clock, out: &mut Block, at: usize) -> Sai
     ensures { λ r. ⌜ Answers (restore (now (saved .entry))) clocks (now (out .entry)) at r (now (out .exit)) ⌝ }
 {
     let mut clock = clocks.clock;
-    let reached = clock_saved::restore(&mut clock, saved);
+    let answer = clock_saved::restore(&mut clock, saved);
     clocks.clock = clock;
-    let put = put_restore(out, at, reached);
+    let put = put_restore(out, at, answer == REACHABLE);
     Said { clocks, put }
 }
 
-// Whether a run could have reached the clock that was brought back.
+// Whether a run could have reached the clock that was restored.
 fn put_restore(out: &mut Block, at: usize, reached: bool) -> usize
     requires { ⌜ at + 18 ≤ 65536 ⌝ }
     ensures { λ r. ⌜ Puts (now (out .entry)) at (restoreSays reached) (now (out .exit)) r ⌝ }
@@ -83,8 +84,8 @@ fn put_restore(out: &mut Block, at: usize, reached: bool) -> usize
     put(out, at, b"restore unreached\n")
 }
 
-// LOAD, MATCH, MASK, RAW and the two halves of OFFSET, the lower first.
-fn words_in(line: &[u8]) -> [u32; 6]
+// LOAD, MATCH, MASK, RAW and the two halves of OFFSET, the lower first; the spare words are 0.
+fn words_in(line: &[u8]) -> Clock
     ensures { λ r. ⌜ r ≡ wordsIn (now (line .entry)) ⌝ }
 {
     [
@@ -94,6 +95,8 @@ fn words_in(line: &[u8]) -> [u32; 6]
         word_at(line, 52),
         word_at(line, 25),
         word_at(line, 17),
+        0,
+        0,
     ]
 }
 

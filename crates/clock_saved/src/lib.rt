@@ -62,7 +62,7 @@ fn is_reachable(saved: &Clock) -> bool
 // ---- The entry points
 
 // The answer of a restore, or 0.
-const REACHABLE: u32 = 0x4_0000;
+pub const REACHABLE: u32 = 0x4_0000;
 
 // Copies the clock.
 pub fn save(clock: &Clock, saved: &mut Clock)

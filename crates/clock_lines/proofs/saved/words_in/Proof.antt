@@ -1,6 +1,6 @@
--- Six words, one after the other.
+-- Six words, one after the other, and two zeros.
 -- Assumes nothing.
-use Rattle.clock_lines.proofs.Answering.{six}
+use Rattle.clock_lines.proofs.Answering.{eight}
 use borrow.Author.Needs.{needs}
 use Rattle.clock_lines.proofs.saved.words_in.Statement.{statement}
 use Rattle.clock_lines.proofs.saved.words_in.Tie as tie
@@ -25,7 +25,7 @@ word-at-requires-6 c κs = search needs
 
 returns : tie.Need-returns
 returns c =
-    six (c .before .before .before .before .before .word-at .ensures) (c .before .before .before .before .word-at2 .ensures) (c .before .before .before .word-at3 .ensures) (c .before .before .word-at4 .ensures) (c .before .word-at5 .ensures) (c .word-at6 .ensures)
+    eight (c .before .before .before .before .before .word-at .ensures) (c .before .before .before .before .word-at2 .ensures) (c .before .before .before .word-at3 .ensures) (c .before .before .word-at4 .ensures) (c .before .word-at5 .ensures) (c .word-at6 .ensures)
 
 pub words-in-spec : {M : Type 1} → statement M
 words-in-spec =
