@@ -9,7 +9,7 @@ use lib.ListN.{length}
 use lib.Dec.{ltb, eqb}
 use borrow.Author.Tests.{ne-eqb, le-ltb}
 use Rattle.common.specs.Lists.{some}
-use Rattle.serial.specs.Interrupts.{receivedData, transmitterEmpty}
+use Rattle.interrupts.specs.Interrupts.{receivedData, transmitterEmpty}
 use Rattle.serial.specs.Port.{Port, Register, addressed, RBR-THR, IER, IIR-FCR, LCR, MCR, LSR, MSR, SCR, DLL, DLM, beyond}
 use Rattle.sidebyside.specs.Answers.{Said, Answer, Fits}
 use Rattle.pc16550d.specs.Chip.{Chip, pin, code, registerAt}

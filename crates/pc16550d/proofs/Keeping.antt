@@ -9,8 +9,8 @@ use lib.ListN.{length, take}
 use lib.Dec.{eqb}
 use borrow.Author.Tests.{eqb-false, ltb-true}
 use Rattle.common.specs.Lists.{some}
-use Rattle.serial.specs.Interrupts.{receivedData, transmitterEmpty, ierStored, Announced, announce}
-use Rattle.serial.specs.LineStatus.{lsrReady, lsrAfterRead}
+use Rattle.interrupts.specs.Interrupts.{receivedData, transmitterEmpty, ierStored, Announced, announce}
+use Rattle.line_status.specs.LineStatus.{lsrReady, lsrAfterRead}
 use Rattle.serial.specs.Port.{Port, Register, Out, Input, addressed, isOpen, inLoop, fresh, readRegister, writeRegister, writeLine, hasRoom, roomOf, receives, inputOf, RBR-THR, IER, IIR-FCR, LCR, MCR, LSR, MSR, SCR, DLL, DLM, beyond}
 use Rattle.serial.specs.Port as device
 use Rattle.pc16550d.specs.Chip.{Op, read, write, input}
@@ -27,7 +27,7 @@ unfolding lsrReady
 ready true lsr e = rw e
 ready false lsr e = rw e
 
-one-less : (waiting : List ℕ) (lsr : ℕ) → lsr ≡ cond (some waiting) 0x61 0x60 → lsrAfterRead (tail waiting) lsr ≡ cond (some (tail waiting)) 0x61 0x60
+one-less : (waiting : List ℕ) (lsr : ℕ) → lsr ≡ cond (some waiting) 0x61 0x60 → lsrAfterRead (some (tail waiting)) lsr ≡ cond (some (tail waiting)) 0x61 0x60
 unfolding lsrAfterRead
 one-less [] lsr e = rw e
 one-less (x ∷ []) lsr e = rw e

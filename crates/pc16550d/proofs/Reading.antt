@@ -12,8 +12,8 @@ use lib.Dec.{lit<}
 use Rattle.common.specs.Bits.{on, bit}
 use Rattle.common.specs.Lists.{some, firstOr0}
 use Rattle.sidebyside.specs.Answers.{says, silent, answers, Fits}
-use Rattle.serial.specs.Interrupts.{receivedData, transmitterEmpty, iirRead}
-use Rattle.serial.specs.Modem.{isLoop, loopedLines, msrRead}
+use Rattle.interrupts.specs.Interrupts.{receivedData, transmitterEmpty, iirRead}
+use Rattle.modem.specs.Modem.{isLoop, loopedLines, msrRead}
 use Rattle.serial.specs.Port.{Port, Register, readRegister, RBR-THR, IER, IIR-FCR, LCR, MCR, LSR, MSR, SCR, DLL, DLM, beyond}
 use Rattle.pc16550d.specs.Chip.{afterIir, inputs}
 use Rattle.pc16550d.specs.Chip as chip

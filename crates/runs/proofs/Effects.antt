@@ -10,8 +10,8 @@ use lib.ListN.{length, take, length-take}
 use lib.Dec.{eqb, ltb}
 use borrow.Author.Tests.{eqb-false, ltb-true, lt-ltb}
 use Rattle.common.specs.Lists.{some, firstOr0}
-use Rattle.serial.specs.Interrupts.{receivedData, ierStored, Announced, announce}
-use Rattle.serial.specs.LineStatus.{lsrReady}
+use Rattle.interrupts.specs.Interrupts.{receivedData, ierStored, Announced, announce}
+use Rattle.line_status.specs.LineStatus.{lsrReady}
 use Rattle.serial.specs.Port.{Register, RBR-THR, IER, IIR-FCR, LCR, MCR, LSR, MSR, SCR, DLL, DLM, beyond, addressed, Settings, Port, isOpen, inLoop, withReceiver, Out, replies, becomes, readRbr, readIir, readRegister, readOf, receives, hasRoom, putIer, writeIer, writeLine, writeRegister, writeOf, Input, roomOf, takesNone, takesSome, inputOf}
 use Rattle.runs.proofs.Registers.{isRbr, rbr-is-data}
 use Rattle.runs.specs.Run.{Op, read, write, input, room, sent, full, raisesOf, didInput, step, run}

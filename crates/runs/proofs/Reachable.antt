@@ -12,8 +12,8 @@ use lib.Dec.{lit<, ltb}
 use Rattle.common.specs.Bytes.{Bytes}
 use Rattle.common.specs.Lists.{some}
 use Rattle.common.proofs.Bytes.{bytes-take}
-use Rattle.serial.specs.Interrupts.{receivedData, ierStored, isEnabled, isMarked, mark, unmark, Announced}
-use Rattle.serial.specs.LineStatus.{lsrReady, lsrAfterRead}
+use Rattle.interrupts.specs.Interrupts.{receivedData, ierStored, isEnabled, isMarked, mark, unmark, Announced}
+use Rattle.line_status.specs.LineStatus.{lsrReady, lsrAfterRead}
 use Rattle.serial.specs.Port.{Register, RBR-THR, IER, IIR-FCR, LCR, MCR, LSR, MSR, SCR, DLL, DLM, beyond, addressed, Settings, Port, isOpen, fresh, writeIer, writeRegister}
 use Rattle.runs.specs.Run.{Op, read, write, input, room, Answer, step, run}
 use Rattle.runs.specs.Book.{Book, isData, accepted, taken, bookOf}
@@ -181,7 +181,7 @@ unfolding lsrReady
 lsr-ready true e h = rw (e, h)
 lsr-ready false e h = rw (e, h)
 
-lsr-read : (q : List ℕ) (lsr : ℕ) → lsr ≡ cond (some q) 0x61 0x60 → lsrAfterRead (tail q) lsr ≡ cond (some (tail q)) 0x61 0x60
+lsr-read : (q : List ℕ) (lsr : ℕ) → lsr ≡ cond (some q) 0x61 0x60 → lsrAfterRead (some (tail q)) lsr ≡ cond (some (tail q)) 0x61 0x60
 unfolding lsrAfterRead
 lsr-read [] lsr e = rw e
 lsr-read (x ∷ []) lsr e = rw e

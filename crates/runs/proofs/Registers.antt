@@ -6,7 +6,7 @@ use Prim.Native.Nat.{ℕ, suc, _≤_}
 use native.Mathlib.Omega.{arith}
 use lib.Dec.{eqb}
 use borrow.Author.Tests.{eqb-true, eqb-false, ne-eqb}
-use Rattle.serial.specs.Interrupts.{ierStored}
+use Rattle.interrupts.specs.Interrupts.{ierStored}
 use Rattle.serial.specs.Port.{Register, RBR-THR, IER, IIR-FCR, LCR, MCR, LSR, MSR, SCR, DLL, DLM, beyond, addressed, Settings, Port, inLoop, hasRoom, putIer, putLcr, putMcr, putScr, putDll, putDlm, Out, receives, writeIer, writeLine, writeRegister}
 
 -- what holds of both of a test's cases holds of its outcome

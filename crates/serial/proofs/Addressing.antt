@@ -25,6 +25,10 @@ module _ (dlab : Bool) (offset : ℕ) where
   unfolding addressed
   at-ier d h e = let one : offset ≡ 1 = omega arith in rw (d, one)
 
+  pub at-iir : offset ≡ 2 → addressed dlab offset ≡ IIR-FCR
+  unfolding addressed
+  at-iir e = rw e
+
   pub at-beyond : 2 ≤ offset → (offset ≡ 2 → ⊥) → (offset ≡ 3 → ⊥) → (offset ≡ 4 → ⊥) → (offset ≡ 5 → ⊥) → (offset ≡ 6 → ⊥) → (offset ≡ 7 → ⊥) → addressed dlab offset ≡ beyond
   unfolding addressed
   at-beyond h a b c d e f =

@@ -5,12 +5,13 @@ use mathlib.Core.Bool.{true, false}
 use mathlib.Core.List.{List, [], _∷_}
 use Prim.Native.Nat.{ℕ, _+_, _*_, _≤_, _<_}
 use native.Mathlib.Omega.{arith}
-use lib.ListN.{length, set}
-use Rattle.serial.specs.Interrupts.{transmitterEmpty}
+use lib.ListN.{length, getD, set}
+use Rattle.interrupts.specs.Interrupts.{byteSent}
+use Rattle.interrupts.specs.Calls.{Tells}
+use mathlib.Core.Bool.{Bool}
 use Rattle.serial.specs.Port.{Port, Settings, Register, RBR-THR, IER, LCR, MCR, SCR, isOpen, inLoop, addressed, withSettings, stores, putLcr, putMcr, putScr, putDll, putDlm, writeIer, writeLine, writeLoop, writeRegister, writeOf}
 use Rattle.serial.specs.Layout.{portOf}
 use Rattle.serial.specs.Calls.{Writes}
-use Rattle.serial.specs.Inside.{Announces}
 use Rattle.serial.proofs.Registers.{one-stored, setting, marks}
 use Rattle.serial.proofs.Addressing.{at-dll, at-dlm, unwritten}
 use Rattle.serial.proofs.Answering.{as-it-was, registers-alone}
@@ -20,11 +21,11 @@ module _ (regs pos ring : List ℕ) where
   p = portOf regs pos ring
 
   -- A byte goes out.
-  pub line-sends : length regs ≡ 16 → (v : ℕ) {regs′ : List ℕ} {raises r : ℕ} → Announces regs transmitterEmpty regs′ raises → r ≡ v + 0x2_0000 + 0x100_0000 * raises
-      → Writes (λ q. writeLine q v) regs pos ring regs′ pos ring r
+  pub line-sends : length regs ≡ 16 → (v : ℕ) {iir raises r : ℕ} (waits : Bool) → Tells (byteSent (getD regs 1 0) (getD regs 2 0) waits) iir raises 1 → r ≡ v + 0x2_0000 + 0x100_0000 * raises
+      → Writes (λ q. writeLine q v) regs pos ring (set regs 2 iir) pos ring r
   unfolding portOf writeLine
-  line-sends n v {r = r} a e =
-      rw (a .marked) (registers-alone n (one-stored regs 2 _ (omega arith)) (marks regs pos ring n _) (rw (e, a .raised)))
+  line-sends n v waits a e =
+      rw (a .stored) (registers-alone n (one-stored regs 2 _ (omega arith)) (marks regs pos ring n _) (rw (e, a .raised)))
 
   -- A setting is stored at place k: the first `refl` says which register it is, the second that it lies there.
   module _ (n : length regs ≡ 16) (offset v : ℕ) where

@@ -6,9 +6,9 @@ use lib.ListN.{length, take}
 use lib.Dec.{ltb, eqb}
 use Rattle.common.specs.Bits.{on}
 use Rattle.common.specs.Lists.{some, firstOr0}
-use Rattle.serial.specs.Interrupts.{receivedData, transmitterEmpty, ierStored, nonePending, unmark, announce, iirRead, iirAfterRead}
-use Rattle.serial.specs.LineStatus.{lsrReady, lsrAfterRead}
-use Rattle.serial.specs.Modem.{isLoop, msrRead}
+use Rattle.interrupts.specs.Interrupts.{ierStored, nonePending, identification, afterIdentification, afterDataRead, dataCame, byteSent, enabling}
+use Rattle.line_status.specs.LineStatus.{lsrReady, lsrAfterRead}
+use Rattle.modem.specs.Modem.{isLoop, msrRead}
 
 -- ---- Registers
 
@@ -90,15 +90,17 @@ becomes p = replies p 0
 
 -- ---- Reads
 
--- RBR: the first byte that waits leaves; 0 where none waits: DIFFERENCES, "serial-empty-receiver". Received data is unmarked even if more wait:
--- DIFFERENCES, "serial-forgotten-data".
+-- RBR: the first byte that waits leaves; 0 where none waits: DIFFERENCES, "serial-empty-receiver".
 abbrev pub readRbr : Port → Out
 readRbr p =
     let left = tail (p .waiting) in
-    replies (withReceiver p (unmark (p .iir) receivedData) (lsrAfterRead left (p .lsr)) left) (firstOr0 (p .waiting))
+    replies (withReceiver p (afterDataRead (p .settings .ier) (p .iir) (some left)) (lsrAfterRead (some left) (p .lsr)) left) (firstOr0 (p .waiting))
 
 abbrev pub readIir : Port → Out
-readIir p = replies (withReceiver p iirAfterRead (p .lsr) (p .waiting)) (iirRead (p .iir))
+readIir p =
+    let ier = p .settings .ier in
+    let waits = some (p .waiting) in
+    replies (withReceiver p (afterIdentification ier (p .iir) waits) (p .lsr) (p .waiting)) (identification ier (p .iir) waits)
 
 unfoldable pub readRegister : Port → Register → Out
 readRegister p RBR-THR = readRbr p
@@ -120,7 +122,7 @@ readOf p offset = readRegister p (addressed (isOpen p) offset)
 
 unfoldable pub receives : Port → List ℕ → Out
 receives p bytes =
-    let a = announce (p .settings .ier) (p .iir) receivedData in
+    let a = dataCame (p .settings .ier) (p .iir) (some (p .waiting)) in
     record { port = withReceiver p (a .iir) (lsrReady (p .lsr)) (p .waiting ++ bytes); reply = 0; sent = []; raises = a .raises }
 
 abbrev pub hasRoom : Port → Bool
@@ -136,7 +138,7 @@ writeLoop p value = cond (hasRoom p) (receives p (value ∷ [])) (becomes p)
 -- THR on the line: the byte is sent and has left at once; the empty transmitter is announced, whether or not the host delivers the byte.
 unfoldable pub writeLine : Port → ℕ → Out
 writeLine p value =
-    let a = announce (p .settings .ier) (p .iir) transmitterEmpty in
+    let a = byteSent (p .settings .ier) (p .iir) (some (p .waiting)) in
     record { port = withReceiver p (a .iir) (p .lsr) (p .waiting); reply = 0; sent = value ∷ []; raises = a .raises }
 
 abbrev pub writeThr : Port → ℕ → Out
@@ -164,15 +166,12 @@ putDlm s v = record { ier = s .ier; lcr = s .lcr; mcr = s .mcr; scr = s .scr; dl
 abbrev pub stores : Port → Settings → Out
 stores p s = becomes (withSettings p s)
 
--- IER: the value is stored, and under it what there is to announce is announced: received data if bytes wait, then the empty transmitter, which it
--- always is. By the manual setting 0x02 signals an empty transmitter; here it is announced also where 0x02 was set before: DIFFERENCES,
--- "serial-transmitter-again". A mark that was kept while its kind was disabled is not raised again: DIFFERENCES, "serial-quiet-enable".
+-- IER: the value is stored, and under it what there is to announce is announced.
 unfoldable pub writeIer : Port → ℕ → Out
 writeIer p value =
     let s = putIer (p .settings) (ierStored value) in
-    let a = cond (some (p .waiting)) (announce (s .ier) (p .iir) receivedData) (record { iir = p .iir; raises = 0 }) in
-    let b = announce (s .ier) (a .iir) transmitterEmpty in
-    record { port = withReceiver (withSettings p s) (b .iir) (p .lsr) (p .waiting); reply = 0; sent = []; raises = a .raises + b .raises }
+    let a = enabling (s .ier) (p .iir) (some (p .waiting)) in
+    record { port = withReceiver (withSettings p s) (a .iir) (p .lsr) (p .waiting); reply = 0; sent = []; raises = a .raises }
 
 -- FCR: nothing happens: DIFFERENCES, "serial-fifo-off", "serial-fifo-empty" and "serial-trigger-level". LSR, MSR and the offsets beyond are not
 -- written: DIFFERENCES, "serial-read-only" and "serial-beyond".

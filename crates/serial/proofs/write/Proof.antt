@@ -44,19 +44,22 @@ returns-3 : tie.Need-returns-3
 unfolding portOf
 returns-3 c = let a = c .before .before .before .before .before .before .before .before .before .before .before .before .before .before .args in loops (a .regs .now) (a .pos .now) (a .ring .now) (a .offset) _ _ (at-data _ _ (sym (c .before .before .before .before .before .before .before .before .before .is-open .ensures) ∙ c .before .before .before .before .before .before .before .before .if2 .left) (c .before .before .before .before .before .before .before .if4 .taken)) (sym (c .before .before .before .before .before .is-loop .ensures) ∙ c .before .before .before .before .if5 .taken) (c .write-loop .ensures)
 
+element-copy-out-write-line : tie.Need-element-copy-out-write-line
+element-copy-out-write-line c = search needs
+
 write-line-requires : tie.Need-write-line-requires
 write-line-requires c κs = search needs
 
 returns-4 : tie.Need-returns-4
 unfolding portOf
-returns-4 c = let a = c .before .before .before .before .before .before .before .before .before .before .before .before .args in sends (a .regs .now) (a .pos .now) (a .ring .now) (a .offset) _ _ (at-data _ _ (sym (c .before .before .before .before .before .before .before .is-open .ensures) ∙ c .before .before .before .before .before .before .if2 .left) (c .before .before .before .before .before .if4 .taken)) (sym (c .before .before .before .is-loop .ensures) ∙ c .before .before .if5 .left) (c .write-line .ensures _ _)
+returns-4 c = let a = c .before .before .before .before .before .before .before .before .before .before .before .before .before .args in sends (a .regs .now) (a .pos .now) (a .ring .now) (a .offset) _ _ (at-data _ _ (sym (c .before .before .before .before .before .before .before .before .is-open .ensures) ∙ c .before .before .before .before .before .before .before .if2 .left) (c .before .before .before .before .before .before .if4 .taken)) (sym (c .before .before .before .before .is-loop .ensures) ∙ c .before .before .before .if5 .left) (c .write-line .ensures _ _)
 
-write-ier-requires : tie.Need-write-ier-requires
-write-ier-requires c κs = search needs
+write-requires : tie.Need-write-requires
+write-requires c κs = search needs
 
 returns-5 : tie.Need-returns-5
 unfolding portOf
-returns-5 c = let a = c .before .before .before .before .before .before .before .before .before .before .args in enables (a .regs .now) (a .pos .now) (a .ring .now) (a .offset) _ _ (at-ier _ _ (sym (c .before .before .before .before .before .is-open .ensures) ∙ c .before .before .before .before .if2 .left) (c .before .before .before .before .before .before .before .if1 .taken) (c .before .before .before .if4 .left)) (c .write-ier .ensures _)
+returns-5 c = let a = c .before .before .before .before .before .before .before .before .before .before .args in enables (a .regs .now) (a .pos .now) (a .ring .now) (a .offset) _ _ (at-ier _ _ (sym (c .before .before .before .before .before .is-open .ensures) ∙ c .before .before .before .before .if2 .left) (c .before .before .before .before .before .before .before .if1 .taken) (c .before .before .before .if4 .left)) (c .write .ensures _)
 
 element-write-regs-3 : tie.Need-element-write-regs-3
 element-write-regs-3 c = search needs
@@ -98,9 +101,10 @@ write-spec =
     is-loop-requires
     write-loop-requires
     returns-3
+    element-copy-out-write-line
     write-line-requires
     returns-4
-    write-ier-requires
+    write-requires
     returns-5
     element-write-regs-3
     returns-6
