@@ -14,7 +14,7 @@ use Rattle.common.specs.Lists.{some}
 use Rattle.common.proofs.Bytes.{bytes-take}
 use Rattle.interrupts.specs.Interrupts.{receivedData, ierStored, isEnabled, isMarked, mark, unmark, Announced}
 use Rattle.line_status.specs.LineStatus.{lsrReady, lsrAfterRead}
-use Rattle.serial.specs.Port.{Register, RBR-THR, IER, IIR-FCR, LCR, MCR, LSR, MSR, SCR, DLL, DLM, beyond, addressed, Settings, Port, isOpen, fresh, writeIer, writeRegister}
+use Rattle.serial.specs.Port.{Register, RBR-THR, IER, IIR-FCR, LCR, MCR, LSR, MSR, SCR, DLL, DLM, reserved, addressed, Settings, Port, isOpen, fresh, writeIer, writeRegister}
 use Rattle.runs.specs.Run.{Op, read, write, input, room, Answer, step, run}
 use Rattle.runs.specs.Book.{Book, isData, accepted, taken, bookOf}
 use Rattle.runs.specs.Told.{Source, receiver, transmitter, kindOf, marked}
@@ -59,7 +59,7 @@ put-written s MSR v w h = w
 put-written s SCR v w h = record { ier = w .ier; lcr = w .lcr; mcr = w .mcr; scr = h; dll = w .dll; dlm = w .dlm }
 put-written s DLL v w h = record { ier = w .ier; lcr = w .lcr; mcr = w .mcr; scr = w .scr; dll = h; dlm = w .dlm }
 put-written s DLM v w h = record { ier = w .ier; lcr = w .lcr; mcr = w .mcr; scr = w .scr; dll = w .dll; dlm = h }
-put-written s beyond v w h = w
+put-written s reserved v w h = w
 
 written : (p : Port) (o : Op) → OfBytes o → Written (p .settings) → Written (step p o .port .settings)
 unfolding step
@@ -164,7 +164,7 @@ other-write p MSR v = inl refl
 other-write p SCR v = inl refl
 other-write p DLL v = inl refl
 other-write p DLM v = inl refl
-other-write p beyond v = inl refl
+other-write p reserved v = inl refl
 
 unmarked : (size : ℕ) (p : Port) (o : Op) → Reachable size p → Unmarked size (step p o .port)
 unfolding step

@@ -127,10 +127,7 @@ pub fn write(regs: &mut Regs, pos: &mut Pos, ring: &mut Ring, offset: u8, value:
             return 0;
         }
         if offset == 0 {
-            if modem::is_loop(regs[MCR]) {
-                return receiver::write_loop(regs, pos, ring, value);
-            }
-            return transmitter::write_line(regs, pos[COUNT] != 0, value);
+            return transmitter::write_thr(regs, pos, ring, value);
         }
         return ier::write(regs, pos, value);
     }

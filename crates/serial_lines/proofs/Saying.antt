@@ -13,7 +13,7 @@ use lib.Dec.{eqb}
 use lib.ListN.{length, getD, take}
 use Rattle.common.specs.Lists.{some}
 use Rattle.serial.specs.Port.{Port, Out, Input, readOf, writeOf, inputOf, isOpen, inLoop, hasRoom, becomes, receives, takesNone, takesSome}
-use Rattle.serial.specs.Port.{Register, RBR-THR, IER, IIR-FCR, LCR, MCR, LSR, MSR, SCR, DLL, DLM, beyond, addressed, writeRegister, writeLine, writeIer}
+use Rattle.serial.specs.Port.{Register, RBR-THR, IER, IIR-FCR, LCR, MCR, LSR, MSR, SCR, DLL, DLM, reserved, addressed, writeRegister, writeLine, writeIer}
 use Rattle.ring.specs.Ring.{queue}
 use Rattle.serial.specs.Layout.{size, places, portOf, spareRegisters, freshSpareRegisters}
 use Rattle.serial.specs.Calls.{Reads, Writes, TakesInput, writeWord, inputWord}
@@ -68,7 +68,7 @@ value-or-none p MSR value = inl refl
 value-or-none p SCR value = inl refl
 value-or-none p DLL value = inl refl
 value-or-none p DLM value = inl refl
-value-or-none p beyond value = inl refl
+value-or-none p reserved value = inl refl
 
 write-parts : (o : Out) (value : ℕ) → value < 256 → (o .sent ≡ []) ⊎ (o .sent ≡ value ∷ [])
     → (sentPart (writeWord o % 0x100_0000) ≡ sentSays (o .sent)) × (writeWord o / 0x100_0000 ≡ o .raises)

@@ -5,7 +5,7 @@ use native.Mathlib.Omega.{arith}
 use Prim.Native.Nat.{ℕ, _≤_}
 use Rattle.serial.specs.Port.{addressed, readRegister}
 use Rattle.serial.specs.Layout.{portOf}
-use Rattle.serial.proofs.Addressing.{at-dll, at-dlm, at-data, at-ier, at-iir, at-beyond}
+use Rattle.serial.proofs.Addressing.{at-dll, at-dlm, at-data, at-ier, at-iir, at-reserved}
 use Rattle.serial.proofs.Reading.{answers, answers-at, answers-kept, hands-on}
 use borrow.Author.Needs.{needs}
 use Rattle.serial.proofs.read.Statement.{statement}
@@ -120,7 +120,7 @@ returns-9 c =
     let zero = c .before .before .before .if1 .left in
     let kept = c .before .before .is-status-or-control .ensures .1 (c .before .if3 .left) in
     answers (a .regs .now) (a .pos .now) (a .ring .now) (a .offset) _
-    (at-beyond _ _ (from-two _ zero (m .0 .0 .0 .1)) (m .0 .0 .1) (λ e. kept (omega (arith, e)) (omega (arith, e))) (λ e. kept (omega (arith, e)) (omega (arith, e))) (λ e. kept (omega (arith, e)) (omega (arith, e))) (m .0 .1) (m .1)) refl refl
+    (at-reserved _ _ (from-two _ zero (m .0 .0 .0 .1)) (m .0 .0 .1) (λ e. kept (omega (arith, e)) (omega (arith, e))) (λ e. kept (omega (arith, e)) (omega (arith, e))) (λ e. kept (omega (arith, e)) (omega (arith, e))) (m .0 .1) (m .1)) refl refl
 
 pub read-spec : {M : Type 1} → statement M
 read-spec =
