@@ -9,8 +9,8 @@ use lib.ListN.{length}
 use lib.Dec.{ltb, eqb}
 use borrow.Author.Tests.{ne-eqb, le-ltb}
 use Rattle.common.specs.Lists.{some}
-use Rattle.serial.specs.Interrupts.{receivedData, transmitterEmpty}
-use Rattle.serial.specs.Port.{Port, Register, addressed, RBR-THR, IER, IIR-FCR, LCR, MCR, LSR, MSR, SCR, DLL, DLM, beyond}
+use Rattle.interrupts.specs.Interrupts.{receivedData, transmitterEmpty}
+use Rattle.serial.specs.Port.{Port, Register, addressed, RBR-THR, IER, IIR-FCR, LCR, MCR, LSR, MSR, SCR, DLL, DLM, reserved}
 use Rattle.sidebyside.specs.Answers.{Said, Answer, Fits}
 use Rattle.pc16550d.specs.Chip.{Chip, pin, code, registerAt}
 use Rattle.pc16550d.specs.Chip as chip
@@ -30,7 +30,7 @@ named MSR = chip.MSR
 named SCR = chip.SCR
 named DLL = chip.DLL
 named DLM = chip.DLM
-named beyond = chip.outside
+named reserved = chip.outside
 
 not-below-8 : (n k : ℕ) → k < 8 → eqb (suc (suc (suc (suc (suc (suc (suc (suc n)))))))) k ≡ false
 not-below-8 n k h = ne-eqb _ k (omega arith)

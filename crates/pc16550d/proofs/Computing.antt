@@ -1,8 +1,8 @@
 -- One name for all that has to be unfolded to compute a run of the device and of the chip.
 -- Assumes nothing.
-use Rattle.serial.specs.Interrupts.{ierStored, mark, unmark, isDue, announce, iirRead}
-use Rattle.serial.specs.LineStatus.{lsrReady, lsrAfterRead}
-use Rattle.serial.specs.Modem.{isLoop, msrRead}
+use Rattle.interrupts.specs.Interrupts.{ierStored, mark, unmark, isDue, announce, iirRead}
+use Rattle.line_status.specs.LineStatus.{lsrReady, lsrAfterRead}
+use Rattle.modem.specs.Modem.{isLoop, msrRead}
 use Rattle.serial.specs.Port.{addressed, readRegister, receives, writeLine, writeRegister, inputOf}
 use Rattle.serial.specs.Port as device
 use Rattle.pc16550d.specs.Chip.{registerAt, masterReset, pin, code, afterIir, writeIer, transmits, arrives, arriveAll, triggerLevel, writeFcr, inputs, changed, writeMcr, writeThr, fromLine, chipDoes}

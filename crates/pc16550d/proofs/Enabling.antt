@@ -6,7 +6,7 @@ use mathlib.Core.Bool.{Bool, true, false, cond, not, _&&_, _||_, true≢false, f
 use Prim.Native.Nat.{ℕ, _+_, _<_}
 use native.Mathlib.Omega.{arith}
 use Rattle.common.specs.Lists.{some}
-use Rattle.serial.specs.Interrupts.{receivedData, transmitterEmpty, isEnabled, isDue, ierStored}
+use Rattle.interrupts.specs.Interrupts.{receivedData, transmitterEmpty, isEnabled, isDue, ierStored}
 use Rattle.serial.specs.Port.{Port, IER, writeRegister}
 use Rattle.serial.specs.Port as device
 use Rattle.serial.specs.Sources.{transmitter}

@@ -5,7 +5,7 @@ use mathlib.Core.Logic.{_⊎_, inl}
 use Prim.Native.Nat.{ℕ}
 use native.Mathlib.Decide.{decLt, ℕ-discrete}
 use lib.ListN.{length}
-use Rattle.serial.specs.Port.{Port, Register, writeRegister, addressed, isOpen, RBR-THR, IER, IIR-FCR, LCR, MCR, LSR, MSR, SCR, DLL, DLM, beyond}
+use Rattle.serial.specs.Port.{Port, Register, writeRegister, addressed, isOpen, RBR-THR, IER, IIR-FCR, LCR, MCR, LSR, MSR, SCR, DLL, DLM, reserved}
 use Rattle.pc16550d.specs.Chip.{Op, read, write, input, triggerLevel, writeMcr, chipDoes}
 use Rattle.pc16550d.specs.Chip as chip
 use Rattle.pc16550d.specs.Compare.{deviceDoes, chipOf, Sound, AgreesAt, Row, writes, RowAt}
@@ -27,7 +27,7 @@ write-complete p k MSR v = inl (quietly p tt refl refl)
 write-complete p k SCR v = inl (quietly p tt refl refl)
 write-complete p k DLL v = inl (quietly p tt refl refl)
 write-complete p k DLM v = inl (quietly p tt refl refl)
-write-complete p k beyond v = inl (quietly p tt refl refl)
+write-complete p k reserved v = inl (quietly p tt refl refl)
 
 -- Complete: a call agrees or is in a row.
 pub complete : (p : Port) → Sound p → (o : Op) → AgreesAt p o ⊎ RowAt p o

@@ -9,9 +9,9 @@ use lib.ListN.{length, take}
 use lib.Dec.{eqb}
 use borrow.Author.Tests.{eqb-false, ltb-true}
 use Rattle.common.specs.Lists.{some}
-use Rattle.serial.specs.Interrupts.{receivedData, transmitterEmpty, ierStored, Announced, announce}
-use Rattle.serial.specs.LineStatus.{lsrReady, lsrAfterRead}
-use Rattle.serial.specs.Port.{Port, Register, Out, Input, addressed, isOpen, inLoop, fresh, readRegister, writeRegister, writeLine, hasRoom, roomOf, receives, inputOf, RBR-THR, IER, IIR-FCR, LCR, MCR, LSR, MSR, SCR, DLL, DLM, beyond}
+use Rattle.interrupts.specs.Interrupts.{receivedData, transmitterEmpty, ierStored, Announced, announce}
+use Rattle.line_status.specs.LineStatus.{lsrReady, lsrAfterRead}
+use Rattle.serial.specs.Port.{Port, Register, Out, Input, addressed, isOpen, inLoop, fresh, readRegister, writeRegister, writeLine, hasRoom, roomOf, receives, inputOf, RBR-THR, IER, IIR-FCR, LCR, MCR, LSR, MSR, SCR, DLL, DLM, reserved}
 use Rattle.serial.specs.Port as device
 use Rattle.pc16550d.specs.Chip.{Op, read, write, input}
 use Rattle.pc16550d.specs.Compare.{deviceDoes, noMark, Sound}
@@ -27,7 +27,7 @@ unfolding lsrReady
 ready true lsr e = rw e
 ready false lsr e = rw e
 
-one-less : (waiting : List ℕ) (lsr : ℕ) → lsr ≡ cond (some waiting) 0x61 0x60 → lsrAfterRead (tail waiting) lsr ≡ cond (some (tail waiting)) 0x61 0x60
+one-less : (waiting : List ℕ) (lsr : ℕ) → lsr ≡ cond (some waiting) 0x61 0x60 → lsrAfterRead (some (tail waiting)) lsr ≡ cond (some (tail waiting)) 0x61 0x60
 unfolding lsrAfterRead
 one-less [] lsr e = rw e
 one-less (x ∷ []) lsr e = rw e
@@ -47,7 +47,7 @@ read-keeps p k MSR = k
 read-keeps p k SCR = k
 read-keeps p k DLL = k
 read-keeps p k DLM = k
-read-keeps p k beyond = k
+read-keeps p k reserved = k
 
 -- ---- Writes
 receives-keeps : (p : Port) (bytes : List ℕ) → Sound p → some (p .waiting ++ bytes) ≡ true → Sound (receives p bytes .port)
@@ -114,7 +114,7 @@ write-keeps p k MSR v = k
 write-keeps p k SCR v = settings-keep p _ k
 write-keeps p k DLL v = settings-keep p _ k
 write-keeps p k DLM v = settings-keep p _ k
-write-keeps p k beyond v = k
+write-keeps p k reserved v = k
 
 -- ---- Input
 some-taken : (waiting : List ℕ) (n : ℕ) (bytes : List ℕ) → 0 < n → 0 < length bytes → some (waiting ++ take n bytes) ≡ true

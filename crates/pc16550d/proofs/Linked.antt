@@ -7,7 +7,7 @@ use mathlib.Core.List.{List}
 use Prim.Native.Nat.{ℕ, _≤_}
 use lib.Dec.{lit≤}
 use Rattle.common.specs.Lists.{some}
-use Rattle.serial.specs.Interrupts.{receivedData, isMarked}
+use Rattle.interrupts.specs.Interrupts.{receivedData, isMarked}
 use Rattle.serial.specs.Port.{Port}
 use Rattle.serial.specs.Layout.{size}
 use Rattle.serial.specs.Reachable.{Reachable, neither, onlyTransmitter, onlyReceiver, twoKinds}

@@ -3,7 +3,7 @@
 use mathlib.Core.Path.{_≡_, refl}
 use mathlib.Core.Bool.{Bool, true, false, not, _&&_}
 use Prim.Native.Nat.{ℕ}
-use Rattle.serial.specs.Interrupts.{Kind, receivedData, transmitterEmpty, isEnabled, isMarked, mark, unmark, isDue, Announced, announce}
+use Rattle.interrupts.specs.Interrupts.{Kind, receivedData, transmitterEmpty, isEnabled, isMarked, mark, unmark, isDue, Announced, announce}
 use Rattle.pc16550d.specs.Compare.{Marks, noMark, transmitterMark, dataMark, bothMarks}
 
 -- What holds of the four values of IIR holds of a sound one.

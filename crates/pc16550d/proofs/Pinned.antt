@@ -48,7 +48,7 @@ module _ (c : Chip) where
   unfolding computing
   after-reset = refl
 
-  -- DLAB opens the divisor at 0 and 1 and touches no other address; IER is what it was behind it; there is no address beyond 7.
+  -- DLAB opens the divisor at 0 and 1 and touches no other address; IER is what it was behind it; there is no address reserved 7.
   pub divisor : Told pair reset
       (w 1 0x05 ∷ w 3 0x80 ∷ w 0 0x0c ∷ w 1 0x34 ∷ r 0 0x0c ∷ r 1 0x34 ∷ r 3 0x80 ∷ r 5 0x60 ∷ w 3 0x7f ∷ r 1 0x05 ∷ r 3 0x7f ∷ r? 8 ∷ [])
   unfolding computing

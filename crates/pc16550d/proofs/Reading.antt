@@ -12,9 +12,9 @@ use lib.Dec.{lit<}
 use Rattle.common.specs.Bits.{on, bit}
 use Rattle.common.specs.Lists.{some, firstOr0}
 use Rattle.sidebyside.specs.Answers.{says, silent, answers, Fits}
-use Rattle.serial.specs.Interrupts.{receivedData, transmitterEmpty, iirRead}
-use Rattle.serial.specs.Modem.{isLoop, loopedLines, msrRead}
-use Rattle.serial.specs.Port.{Port, Register, readRegister, RBR-THR, IER, IIR-FCR, LCR, MCR, LSR, MSR, SCR, DLL, DLM, beyond}
+use Rattle.interrupts.specs.Interrupts.{receivedData, transmitterEmpty, iirRead}
+use Rattle.modem.specs.Modem.{isLoop, loopedLines, msrRead}
+use Rattle.serial.specs.Port.{Port, Register, readRegister, RBR-THR, IER, IIR-FCR, LCR, MCR, LSR, MSR, SCR, DLL, DLM, reserved}
 use Rattle.pc16550d.specs.Chip.{afterIir, inputs}
 use Rattle.pc16550d.specs.Chip as chip
 use Rattle.pc16550d.specs.Compare.{accessed, chipOf, enables, marks, Marks, noMark, transmitterMark, dataMark, bothMarks, Sound, Agrees, Row, reads, serial-two-kinds, serial-forgotten-data, serial-stale-data, serial-stale-transmitter, serial-wide-mcr}
@@ -166,4 +166,4 @@ read-complete p k MSR = inl (msr-read p k)
 read-complete p k SCR = inl (quietly p refl refl refl)
 read-complete p k DLL = inl (quietly p refl refl refl)
 read-complete p k DLM = inl (quietly p refl refl refl)
-read-complete p k beyond = inl (quietly p tt refl refl)
+read-complete p k reserved = inl (quietly p tt refl refl)

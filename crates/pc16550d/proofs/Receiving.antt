@@ -5,8 +5,8 @@ use mathlib.Core.List.{List, [], _∷_, _++_}
 use mathlib.Core.Bool.{Bool, true, false, not, _&&_, _||_, true≢false, false≢true}
 use Prim.Native.Nat.{ℕ}
 use Rattle.common.specs.Lists.{some}
-use Rattle.serial.specs.Interrupts.{receivedData, Announced}
-use Rattle.serial.specs.LineStatus.{lsrReady}
+use Rattle.interrupts.specs.Interrupts.{receivedData, Announced}
+use Rattle.line_status.specs.LineStatus.{lsrReady}
 use Rattle.serial.specs.Port.{Port, receives}
 use Rattle.serial.specs.Port as device
 use Rattle.pc16550d.specs.Chip.{withReceiver, holding}

@@ -11,7 +11,7 @@ use borrow.Author.Tests.{lt-ltb, le-ltb}
 use Rattle.common.specs.Bits.{on}
 use Rattle.common.specs.Lists.{some}
 use Rattle.sidebyside.specs.Answers.{none, answers}
-use Rattle.serial.specs.Interrupts.{transmitterEmpty, Announced}
+use Rattle.interrupts.specs.Interrupts.{transmitterEmpty, Announced}
 use Rattle.serial.specs.Port.{Port, Register, writeRegister, writeLine, receives, inLoop, RBR-THR, IIR-FCR, MCR}
 use Rattle.serial.specs.Port as device
 use Rattle.pc16550d.specs.Chip.{Chip, triggerLevel, writeFcr, writeMcr, transmits, arrives, writeThr}

@@ -17,7 +17,7 @@ use Rattle.sidebyside.specs.Answers.{Said, says, silent, none}
 
 -- ---- Registers
 
--- RBR is read and THR written at one address, and so are IIR and FCR. The chip has three address lines: there is nothing beyond SCR.
+-- RBR is read and THR written at one address, and so are IIR and FCR. The chip has three address lines: there is nothing reserved SCR.
 pub data Register : Type 0 where
   RBR-THR IER IIR-FCR LCR MCR LSR MSR SCR DLL DLM outside : Register
 

@@ -8,7 +8,7 @@ use Rattle.common.specs.Bits.{on}
 use Rattle.common.specs.Lists.{some}
 use Rattle.sidebyside.specs.Answers.{Answer, answers, refuses, Fits}
 use Rattle.sidebyside.specs.Runs.{Pair}
-use Rattle.serial.specs.Interrupts.{Kind, receivedData, transmitterEmpty, isEnabled, isMarked, isDue, ierStored}
+use Rattle.interrupts.specs.Interrupts.{Kind, receivedData, transmitterEmpty, isEnabled, isMarked, isDue, ierStored}
 use Rattle.serial.specs.Port.{Port, Register, RBR-THR, IER, IIR-FCR, MCR, addressed, isOpen, inLoop, readOf, writeOf, inputOf}
 use Rattle.serial.specs.Port as device
 use Rattle.pc16550d.specs.Chip.{Chip, pin, Op, read, write, input, chipDoes}

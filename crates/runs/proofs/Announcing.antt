@@ -9,7 +9,7 @@ use lib.ListN.{length}
 use lib.Dec.{eqb}
 use borrow.Author.Tests.{eqb-true, ne-eqb}
 use Rattle.common.specs.Lists.{some}
-use Rattle.serial.specs.Interrupts.{receivedData, transmitterEmpty, ierStored, isEnabled, Announced, announce}
+use Rattle.interrupts.specs.Interrupts.{receivedData, transmitterEmpty, ierStored, isEnabled, Announced, announce}
 use Rattle.serial.specs.Port.{Register, RBR-THR, IER, DLL, DLM, addressed, Port, Out, Input, isOpen, inLoop, hasRoom, becomes, readOf, receives, writeIer, writeLine, writeRegister, writeOf, takesNone, takesSome, inputOf}
 use Rattle.runs.specs.Run.{Op, read, write, input, room, raisesOf, didInput, step, run}
 use Rattle.serial.specs.Sources.{Source, receiver, transmitter, kindOf, marked, present}

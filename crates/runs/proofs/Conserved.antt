@@ -8,7 +8,7 @@ use native.Mathlib.Omega.{arith}
 use lib.ListN.{length, take, length-append}
 use lib.Dec.{eqb}
 use Rattle.common.specs.Bits.{on}
-use Rattle.serial.specs.Modem.{isLoop}
+use Rattle.modem.specs.Modem.{isLoop}
 use Rattle.serial.specs.Port.{Register, Settings, Port, addressed, isOpen, inLoop, fresh, Out, Input, readRegister, inputOf, receives}
 use Rattle.runs.specs.Run.{Op, read, write, input, room, hasRoom, step, run}
 use Rattle.runs.specs.Book.{Book, accepted, delivered, dlabAfter, loopAfter, next, bookAfter, allAccepted, allDelivered, bookOf, freshBook}

@@ -10,9 +10,9 @@ use lib.ListN.{length, take, length-take}
 use lib.Dec.{eqb, ltb}
 use borrow.Author.Tests.{eqb-false, ltb-true, lt-ltb}
 use Rattle.common.specs.Lists.{some, firstOr0}
-use Rattle.serial.specs.Interrupts.{receivedData, ierStored, Announced, announce}
-use Rattle.serial.specs.LineStatus.{lsrReady}
-use Rattle.serial.specs.Port.{Register, RBR-THR, IER, IIR-FCR, LCR, MCR, LSR, MSR, SCR, DLL, DLM, beyond, addressed, Settings, Port, isOpen, inLoop, withReceiver, Out, replies, becomes, readRbr, readIir, readRegister, readOf, receives, hasRoom, putIer, writeIer, writeLine, writeRegister, writeOf, Input, roomOf, takesNone, takesSome, inputOf}
+use Rattle.interrupts.specs.Interrupts.{receivedData, ierStored, Announced, announce}
+use Rattle.line_status.specs.LineStatus.{lsrReady}
+use Rattle.serial.specs.Port.{Register, RBR-THR, IER, IIR-FCR, LCR, MCR, LSR, MSR, SCR, DLL, DLM, reserved, addressed, Settings, Port, isOpen, inLoop, withReceiver, Out, replies, becomes, readRbr, readIir, readRegister, readOf, receives, hasRoom, putIer, writeIer, writeLine, writeRegister, writeOf, Input, roomOf, takesNone, takesSome, inputOf}
 use Rattle.runs.proofs.Registers.{isRbr, rbr-is-data}
 use Rattle.runs.specs.Run.{Op, read, write, input, room, sent, full, raisesOf, didInput, step, run}
 use Rattle.runs.specs.Book.{accepted, readsData, delivered, taken, bookOf}
@@ -65,7 +65,7 @@ read-cases P p a b c MSR = c _
 read-cases P p a b c SCR = c _
 read-cases P p a b c DLL = c _
 read-cases P p a b c DLM = c _
-read-cases P p a b c beyond = c _
+read-cases P p a b c reserved = c _
 
 -- ---- Writes
 
@@ -93,7 +93,7 @@ write-cases P p v a b MSR = b _ _ _ _ none
 write-cases P p v a b SCR = b _ _ _ _ none
 write-cases P p v a b DLL = b _ _ _ _ none
 write-cases P p v a b DLM = b _ _ _ _ none
-write-cases P p v a b beyond = b _ _ _ _ none
+write-cases P p v a b reserved = b _ _ _ _ none
 
 -- ---- Input
 

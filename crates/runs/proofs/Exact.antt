@@ -13,9 +13,9 @@ use lib.Dec.{eqb, ltb, lit<}
 use borrow.Author.Tests.{lt-ltb, ne-eqb}
 use Rattle.common.specs.Bytes.{Bytes}
 use Rattle.common.specs.Lists.{some}
-use Rattle.serial.specs.Interrupts.{receivedData, transmitterEmpty, isEnabled, isMarked, ierStored, mark, unmark, isDue, Announced, announce}
-use Rattle.serial.specs.LineStatus.{lsrReady, lsrAfterRead}
-use Rattle.serial.specs.Modem.{isLoop}
+use Rattle.interrupts.specs.Interrupts.{receivedData, transmitterEmpty, isEnabled, isMarked, ierStored, mark, unmark, isDue, Announced, announce}
+use Rattle.line_status.specs.LineStatus.{lsrReady, lsrAfterRead}
+use Rattle.modem.specs.Modem.{isLoop}
 use Rattle.serial.specs.Port.{addressed, Settings, Port, fresh, readRegister, receives, writeIer, writeLine, writeRegister, inputOf}
 use mathlib.Core.Logic.{_↔_}
 use Rattle.runs.proofs.Effects.{run-on}

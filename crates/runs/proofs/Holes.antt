@@ -8,8 +8,8 @@ use Prim.Native.Nat.{ℕ, _≤_}
 use native.Mathlib.Omega.{arith}
 use lib.ListN.{length}
 use Rattle.common.specs.Lists.{some}
-use Rattle.serial.specs.Interrupts.{receivedData, isEnabled, isMarked, ierStored, mark, unmark, isDue, announce}
-use Rattle.serial.specs.Modem.{isLoop}
+use Rattle.interrupts.specs.Interrupts.{receivedData, isEnabled, isMarked, ierStored, mark, unmark, isDue, announce}
+use Rattle.modem.specs.Modem.{isLoop}
 use Rattle.serial.specs.Port.{RBR-THR, IER, DLL, DLM, addressed, Settings, Port, withSettings, becomes, isOpen, inLoop, hasRoom, fresh, readRegister, readOf, receives, writeIer, writeLine, writeRegister, writeOf, inputOf, Input}
 use Rattle.serial.specs.Layout.{size}
 use Rattle.runs.specs.Run.{Op, read, write, input, room, step, run, sent, took}

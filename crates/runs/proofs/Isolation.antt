@@ -10,7 +10,7 @@ use lib.ListN.{length, getD, set}
 use lib.Seq.{getD-set-other}
 use lib.Dec.{lit<}
 use Rattle.serial.specs.Port.{Port}
-use Rattle.serial.specs.Ring.{queue}
+use Rattle.ring.specs.Ring.{queue}
 use Rattle.serial.specs.Layout.{size, places, startOf, countOf, portOf}
 use Rattle.serial.proofs.Bounds.{memory-fits}
 use Rattle.runs.specs.Run.{Op, run}

@@ -12,9 +12,9 @@ use lib.Dec.{lit<, ltb}
 use Rattle.common.specs.Bytes.{Bytes}
 use Rattle.common.specs.Lists.{some}
 use Rattle.common.proofs.Bytes.{bytes-take}
-use Rattle.serial.specs.Interrupts.{receivedData, ierStored, isEnabled, isMarked, mark, unmark, Announced}
-use Rattle.serial.specs.LineStatus.{lsrReady, lsrAfterRead}
-use Rattle.serial.specs.Port.{Register, RBR-THR, IER, IIR-FCR, LCR, MCR, LSR, MSR, SCR, DLL, DLM, beyond, addressed, Settings, Port, isOpen, fresh, writeIer, writeRegister}
+use Rattle.interrupts.specs.Interrupts.{receivedData, ierStored, isEnabled, isMarked, mark, unmark, Announced}
+use Rattle.line_status.specs.LineStatus.{lsrReady, lsrAfterRead}
+use Rattle.serial.specs.Port.{Register, RBR-THR, IER, IIR-FCR, LCR, MCR, LSR, MSR, SCR, DLL, DLM, reserved, addressed, Settings, Port, isOpen, fresh, writeIer, writeRegister}
 use Rattle.runs.specs.Run.{Op, read, write, input, room, Answer, step, run}
 use Rattle.runs.specs.Book.{Book, isData, accepted, taken, bookOf}
 use Rattle.serial.specs.Sources.{Source, receiver, transmitter, kindOf, marked}
@@ -60,7 +60,7 @@ put-written s MSR v w h = w
 put-written s SCR v w h = record { ier = w .ier; lcr = w .lcr; mcr = w .mcr; scr = h; dll = w .dll; dlm = w .dlm }
 put-written s DLL v w h = record { ier = w .ier; lcr = w .lcr; mcr = w .mcr; scr = w .scr; dll = h; dlm = w .dlm }
 put-written s DLM v w h = record { ier = w .ier; lcr = w .lcr; mcr = w .mcr; scr = w .scr; dll = w .dll; dlm = h }
-put-written s beyond v w h = w
+put-written s reserved v w h = w
 
 written : (p : Port) (o : Op) → OfBytes o → Written (p .settings) → Written (step p o .port .settings)
 unfolding step
@@ -165,7 +165,7 @@ other-write p MSR v = inl refl
 other-write p SCR v = inl refl
 other-write p DLL v = inl refl
 other-write p DLM v = inl refl
-other-write p beyond v = inl refl
+other-write p reserved v = inl refl
 
 unmarked : (size : ℕ) (p : Port) (o : Op) → Reachable size p → Unmarked size (step p o .port)
 unfolding step
@@ -182,7 +182,7 @@ unfolding lsrReady
 lsr-ready true e h = rw (e, h)
 lsr-ready false e h = rw (e, h)
 
-lsr-read : (q : List ℕ) (lsr : ℕ) → lsr ≡ cond (some q) 0x61 0x60 → lsrAfterRead (tail q) lsr ≡ cond (some (tail q)) 0x61 0x60
+lsr-read : (q : List ℕ) (lsr : ℕ) → lsr ≡ cond (some q) 0x61 0x60 → lsrAfterRead (some (tail q)) lsr ≡ cond (some (tail q)) 0x61 0x60
 unfolding lsrAfterRead
 lsr-read [] lsr e = rw e
 lsr-read (x ∷ []) lsr e = rw e

@@ -6,8 +6,8 @@ use Prim.Native.Nat.{ℕ, suc, _≤_}
 use native.Mathlib.Omega.{arith}
 use lib.Dec.{eqb}
 use borrow.Author.Tests.{eqb-true, eqb-false, ne-eqb}
-use Rattle.serial.specs.Interrupts.{ierStored}
-use Rattle.serial.specs.Port.{Register, RBR-THR, IER, IIR-FCR, LCR, MCR, LSR, MSR, SCR, DLL, DLM, beyond, addressed, Settings, Port, inLoop, hasRoom, putIer, putLcr, putMcr, putScr, putDll, putDlm, Out, receives, writeIer, writeLine, writeRegister}
+use Rattle.interrupts.specs.Interrupts.{ierStored}
+use Rattle.serial.specs.Port.{Register, RBR-THR, IER, IIR-FCR, LCR, MCR, LSR, MSR, SCR, DLL, DLM, reserved, addressed, Settings, Port, inLoop, hasRoom, putIer, putLcr, putMcr, putScr, putDll, putDlm, Out, receives, writeIer, writeLine, writeRegister}
 
 -- what holds of both of a test's cases holds of its outcome
 pub both : {A : Type 0} (P : A → Type 0) (t : Bool) {a b : A} → P a → P b → P (cond t a b)
@@ -24,7 +24,7 @@ above n k h e = omega (arith, eqb-false n k e)
 -- ---- Offsets
 
 pub addressed-cases : (P : ℕ → Register → Type 0) (dlab : Bool) → P 0 (cond dlab DLL RBR-THR) → P 1 (cond dlab DLM IER) → P 2 IIR-FCR → P 3 LCR → P 4 MCR
-    → P 5 LSR → P 6 MSR → P 7 SCR → ((n : ℕ) → 8 ≤ n → P n beyond) → (n : ℕ) → P n (addressed dlab n)
+    → P 5 LSR → P 6 MSR → P 7 SCR → ((n : ℕ) → 8 ≤ n → P n reserved) → (n : ℕ) → P n (addressed dlab n)
 unfolding addressed
 addressed-cases P dlab p0 p1 p2 p3 p4 p5 p6 p7 p8 n =
     by-test (P n) (eqb n 0) (hit 0 p0) (λ e0. let h1 = above n 0 (omega arith) e0 in
@@ -50,7 +50,7 @@ isRbr MSR = false
 isRbr SCR = false
 isRbr DLL = false
 isRbr DLM = false
-isRbr beyond = false
+isRbr reserved = false
 
 -- the data register is at offset 0 while the divisor is closed
 pub rbr-is-data : (dlab : Bool) (n : ℕ) → isRbr (addressed dlab n) ≡ (eqb n 0 && not dlab)
@@ -80,7 +80,7 @@ put s MSR v = s
 put s SCR v = putScr s v
 put s DLL v = putDll s v
 put s DLM v = putDlm s v
-put s beyond v = s
+put s reserved v = s
 
 pub write-puts : (p : Port) (r : Register) (v : ℕ) → writeRegister p r v .port .settings ≡ put (p .settings) r v
 unfolding writeRegister put receives writeIer writeLine
@@ -94,7 +94,7 @@ write-puts p MSR v = refl
 write-puts p SCR v = refl
 write-puts p DLL v = refl
 write-puts p DLM v = refl
-write-puts p beyond v = refl
+write-puts p reserved v = refl
 
 -- LCR at offset 3 and MCR at 4 are written there and nowhere else
 pub put-lcr : (s : Settings) (dlab : Bool) (v n : ℕ) → put s (addressed dlab n) v .lcr ≡ cond (eqb n 3) v (s .lcr)

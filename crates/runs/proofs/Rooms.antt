@@ -10,8 +10,8 @@ use lib.Bits.{bitAnd, bitOr, and-mod, or-mod, and-le-r}
 use lib.Dec.{eqb, T}
 use Rattle.common.specs.Bits.{on}
 use Rattle.common.proofs.EveryByte.{below, same-test}
-use Rattle.serial.specs.Interrupts.{receivedData, transmitterEmpty, isEnabled, isMarked, nonePending, mark, unmark, isDue, Announced, announce}
-use Rattle.serial.specs.LineStatus.{lsrReady, lsrAfterRead}
+use Rattle.interrupts.specs.Interrupts.{receivedData, transmitterEmpty, isEnabled, isMarked, nonePending, mark, unmark, isDue, Announced, announce}
+use Rattle.line_status.specs.LineStatus.{lsrReady, lsrAfterRead}
 use Rattle.serial.specs.Sources.{Source, receiver, transmitter, kindOf}
 
 -- ---- A mask of a byte sees the low byte alone, so that a law of bytes is one of all numbers
@@ -158,6 +158,6 @@ unfolding lsrReady
 ready-set = everywhere (λ x. on (lsrReady x) 0x01) (λ _. true)
     (λ x. ap (λ (a : ℕ). not (eqb a 0)) (low-and 1 (omega arith) (lsrReady x) ∙ ap (λ (a : ℕ). bitAnd a 1) (or-mod x 1 8))) (λ _. refl) tt
 
-pub ready-cleared : (x : ℕ) → on (lsrAfterRead [] x) 0x01 ≡ false
+pub ready-cleared : (x : ℕ) → on (lsrAfterRead false x) 0x01 ≡ false
 unfolding lsrAfterRead
-ready-cleared = everywhere (λ x. on (lsrAfterRead [] x) 0x01) (λ _. false) (λ x. ap (λ (a : ℕ). on a 0x01) (low-and 0xfe (omega arith) x)) (λ _. refl) tt
+ready-cleared = everywhere (λ x. on (lsrAfterRead false x) 0x01) (λ _. false) (λ x. ap (λ (a : ℕ). on a 0x01) (low-and 0xfe (omega arith) x)) (λ _. refl) tt

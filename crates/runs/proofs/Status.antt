@@ -9,7 +9,7 @@ use lib.ListN.{length}
 use borrow.Author.Tests.{leb-true}
 use Rattle.common.specs.Bits.{on}
 use Rattle.common.specs.Lists.{some}
-use Rattle.serial.specs.LineStatus.{lsrAfterRead}
+use Rattle.line_status.specs.LineStatus.{lsrAfterRead}
 use Rattle.serial.specs.Port.{Port, fresh}
 use Rattle.runs.specs.Run.{Op, step, run}
 use Rattle.runs.specs.Book.{bookOf}
@@ -24,7 +24,7 @@ some-more (x ∷ q) l e = refl
 
 -- ---- One operation
 
-true-after-read : (q : List ℕ) (lsr : ℕ) → noneLeft (length q) ≡ true → on (lsrAfterRead (tail q) lsr) 0x01 ≡ some (tail q)
+true-after-read : (q : List ℕ) (lsr : ℕ) → noneLeft (length q) ≡ true → on (lsrAfterRead (some (tail q)) lsr) 0x01 ≡ some (tail q)
 true-after-read [] lsr e = ready-cleared lsr
 true-after-read (x ∷ []) lsr e = ready-cleared lsr
 true-after-read (x ∷ y ∷ q) lsr e = absurd (omega (arith, leb-true))
@@ -35,7 +35,7 @@ true-after {p} (comes bytes s _) h = ready-set (p .lsr) ∙ sym (some-more (p .w
 true-after {p} reads h = true-after-read (p .waiting) (p .lsr) h
 true-after identifies h = absurd (false≢true h)
 
-same-after-read : (q : List ℕ) (lsr : ℕ) → noneLeft (length q) ≡ false → (on (lsrAfterRead (tail q) lsr) 0x01 ≡ on lsr 0x01) × (some (tail q) ≡ some q)
+same-after-read : (q : List ℕ) (lsr : ℕ) → noneLeft (length q) ≡ false → (on (lsrAfterRead (some (tail q)) lsr) 0x01 ≡ on lsr 0x01) × (some (tail q) ≡ some q)
 unfolding lsrAfterRead
 same-after-read [] lsr e = absurd (true≢false e)
 same-after-read (x ∷ []) lsr e = absurd (true≢false e)

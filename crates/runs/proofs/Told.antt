@@ -7,7 +7,7 @@ use mathlib.Core.List.{List, [], _∷_, _++_}
 use Prim.Native.Nat.{ℕ, _+_, _≤_}
 use native.Mathlib.Omega.{arith}
 use Rattle.common.specs.Lists.{some}
-use Rattle.serial.specs.Interrupts.{isEnabled, isMarked, Announced}
+use Rattle.interrupts.specs.Interrupts.{isEnabled, isMarked, Announced}
 use Rattle.serial.specs.Port.{Port, fresh}
 use Rattle.runs.specs.Run.{Op, raisesOf, raisesIn, step, run}
 use Rattle.runs.specs.Book.{accepted, bookOf}

@@ -5,7 +5,7 @@ use mathlib.Core.List.{List, [], _∷_, _++_}
 use lib.ListN.{length, take}
 use lib.Dec.{eqb, ltb}
 use Rattle.common.specs.Bits.{on}
-use Rattle.serial.specs.Modem.{isLoop}
+use Rattle.modem.specs.Modem.{isLoop}
 use Rattle.serial.specs.Port.{Port, isOpen, inLoop}
 use Rattle.runs.specs.Run.{Op, read, write, input, room, Answer, replied, sent, took, full, hasRoom}
 

@@ -6,7 +6,7 @@ use mathlib.Core.List.{List, [], _∷_}
 use lib.ListN.{length}
 use lib.Dec.{eqb}
 use Rattle.common.specs.Lists.{some}
-use Rattle.serial.specs.Interrupts.{ierStored, isEnabled}
+use Rattle.interrupts.specs.Interrupts.{ierStored, isEnabled}
 use Rattle.serial.specs.Port.{Port, isOpen, inLoop, hasRoom}
 use Rattle.serial.specs.Sources.{Source, receiver, transmitter, kindOf, enabled, marked, present}
 use Rattle.runs.specs.Run.{Op, read, write, input, room, raisesOf, step}

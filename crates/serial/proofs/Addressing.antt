@@ -6,7 +6,7 @@ use Prim.Native.Nat.{ℕ, _≤_, _<_}
 use native.Mathlib.Omega.{arith}
 use lib.Dec.{eqb}
 use borrow.Author.Tests.{ne-eqb}
-use Rattle.serial.specs.Port.{Port, RBR-THR, IER, IIR-FCR, LSR, MSR, DLL, DLM, beyond, addressed, becomes, writeRegister}
+use Rattle.serial.specs.Port.{Port, RBR-THR, IER, IIR-FCR, LSR, MSR, DLL, DLM, reserved, addressed, becomes, writeRegister}
 
 module _ (dlab : Bool) (offset : ℕ) where
   pub at-dll : dlab ≡ true → offset ≡ 0 → addressed dlab offset ≡ DLL
@@ -25,13 +25,17 @@ module _ (dlab : Bool) (offset : ℕ) where
   unfolding addressed
   at-ier d h e = let one : offset ≡ 1 = omega arith in rw (d, one)
 
-  pub at-beyond : 2 ≤ offset → (offset ≡ 2 → ⊥) → (offset ≡ 3 → ⊥) → (offset ≡ 4 → ⊥) → (offset ≡ 5 → ⊥) → (offset ≡ 6 → ⊥) → (offset ≡ 7 → ⊥) → addressed dlab offset ≡ beyond
+  pub at-iir : offset ≡ 2 → addressed dlab offset ≡ IIR-FCR
   unfolding addressed
-  at-beyond h a b c d e f =
+  at-iir e = rw e
+
+  pub at-reserved : 2 ≤ offset → (offset ≡ 2 → ⊥) → (offset ≡ 3 → ⊥) → (offset ≡ 4 → ⊥) → (offset ≡ 5 → ⊥) → (offset ≡ 6 → ⊥) → (offset ≡ 7 → ⊥) → addressed dlab offset ≡ reserved
+  unfolding addressed
+  at-reserved h a b c d e f =
       rw (ne-eqb offset 0 (λ z. omega arith), ne-eqb offset 1 (λ z. omega arith), ne-eqb _ _ a, ne-eqb _ _ b, ne-eqb _ _ c, ne-eqb _ _ d, ne-eqb _ _ e, ne-eqb _ _ f)
 
-  -- Offsets 2, 5, 6 and those beyond are not written.
-  nothing : (p : Port) (v : ℕ) (a b c : Bool) → writeRegister p (cond a IIR-FCR (cond b LSR (cond c MSR beyond))) v ≡ becomes p
+  -- Offsets 2, 5, 6 and the reserved ones are not written.
+  nothing : (p : Port) (v : ℕ) (a b c : Bool) → writeRegister p (cond a IIR-FCR (cond b LSR (cond c MSR reserved))) v ≡ becomes p
   unfolding writeRegister
   nothing p v true b c = refl
   nothing p v false true c = refl

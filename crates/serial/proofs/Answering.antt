@@ -8,7 +8,7 @@ use Rattle.serial.specs.Port.{Port}
 use Rattle.serial.specs.Layout.{places, startOf, countOf, portOf, unusedOf, sparePositions}
 use Rattle.serial.specs.Calls.{Answers}
 use Rattle.serial.proofs.Registers.{Stored, same-registers}
-use Rattle.serial.proofs.RingLaws.{queue-length}
+use Rattle.ring.proofs.Laws.{queue-length}
 
 pub waiting-length : (regs pos ring : List ℕ) → length (portOf regs pos ring .waiting) ≡ countOf pos
 unfolding portOf

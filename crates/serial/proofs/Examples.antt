@@ -4,9 +4,9 @@ use mathlib.Core.Path.{_≡_, refl}
 use mathlib.Core.Bool.{cond}
 use mathlib.Core.List.{List, [], _∷_}
 use Prim.Native.Nat.{ℕ, zero, suc}
-use Rattle.serial.specs.Interrupts.{ierStored, mark, unmark, isDue, announce, iirRead}
-use Rattle.serial.specs.LineStatus.{lsrReady, lsrAfterRead}
-use Rattle.serial.specs.Modem.{isLoop, msrRead}
+use Rattle.interrupts.specs.Interrupts.{ierStored, mark, unmark, isDue, announce, iirRead}
+use Rattle.line_status.specs.LineStatus.{lsrReady, lsrAfterRead}
+use Rattle.modem.specs.Modem.{isLoop, msrRead}
 use Rattle.serial.specs.Port.{Port, Input, fresh, addressed, readRegister, readOf, receives, writeIer, writeLine, writeRegister, writeOf, inputOf}
 
 -- read an offset; write a value at an offset; input from the line

@@ -1,50 +1,40 @@
 -- What each answer of the leaves is in the definition.
 -- Assumes nothing.
-use mathlib.Core.Path.{_≡_, refl, sym, subst}
-use mathlib.Core.Bool.{true, false}
+use mathlib.Core.Path.{_≡_, refl, sym, _∙_}
+use mathlib.Core.Bool.{false, not}
 use mathlib.Core.List.{List, [], _∷_}
-use Prim.Native.Nat.{ℕ, zero, suc, _<_}
+use Prim.Native.Nat.{ℕ, zero, suc, min}
 use native.Mathlib.Omega.{arith}
-use lib.Bits.{bitAnd}
-use lib.Dec.{T}
-use lib.ListN.{getD, set}
+use lib.Dec.{eqb}
+use lib.ListN.{length, getD, set}
 use lib.Seq.{set-getD}
-use Rattle.serial.specs.Interrupts.{Kind, receivedData, mark, unmark, isDue, announce}
-use Rattle.serial.specs.LineStatus.{lsrAfterRead}
-use Rattle.serial.specs.Inside.{Announces, WaitAfterRead}
+use borrow.Author.Tests.{ne-eqb}
+use Rattle.common.specs.Lists.{some}
+use Rattle.ring.specs.Ring.{queue}
+use Rattle.line_status.specs.LineStatus.{lsrAfterRead}
+use Rattle.serial.specs.Layout.{size, places, startOf, portOf}
+use Rattle.serial.specs.Inside.{WaitAfterRead}
 
--- ---- A kind is announced
+-- ---- IIR stays where it is to become what it is
 
-module _ (regs : List ℕ) (kind : Kind) where
-  pub due : (m : ℕ) → isDue (getD regs 1 0) (getD regs 2 0) kind ≡ true → m ≡ mark (getD regs 2 0) kind → Announces regs kind (set regs 2 m) 1
-  unfolding announce
-  due m d e = record { marked = rw (d, e); raised = rw d; once = omega arith }
+pub stays : (regs : List ℕ) {iir new : ℕ} → iir ≡ getD regs 2 0 → new ≡ iir → regs ≡ set regs 2 new
+stays regs e same = sym (set-getD regs 2 0) ∙ rw (same, e)
 
-  pub not-due : isDue (getD regs 1 0) (getD regs 2 0) kind ≡ false → Announces regs kind regs 0
-  unfolding announce
-  not-due d = record { marked = rw (d, set-getD regs 2 0); raised = rw d; once = omega arith }
+-- ---- Whether a byte waits
 
--- ---- A test that may say no says nothing then
-
-pub no : {A : Type 0} → false ≡ true → A
-no e = absurd (subst T (sym e) tt)
-
--- ---- A usual IIR has nothing to unmark
-
-pub nothing-to-unmark : (iir : ℕ) → (iir ≡ 0 → ⊥) → iir < 4 → unmark iir receivedData ≡ iir
-unfolding unmark
-nothing-to-unmark zero z h = absurd (z refl)
-nothing-to-unmark (suc zero) z h = refl
-nothing-to-unmark (suc (suc zero)) z h = refl
-nothing-to-unmark (suc (suc (suc zero))) z h = refl
-nothing-to-unmark (suc (suc (suc (suc iir)))) z h = absurd (omega arith)
+pub waits-is : (regs pos ring : List ℕ) → some (portOf regs pos ring .waiting) ≡ not (eqb (getD pos 1 0) 0)
+unfolding portOf queue
+waits-is regs pos ring = go (getD pos 1 0)
+  where
+    go : (n : ℕ) → some (queue places ring (startOf pos) (min n size)) ≡ not (eqb n 0)
+    go zero = refl
+    go (suc n) = let k : min (suc n) size ≡ suc (min n 63) = omega arith in rw (k, ne-eqb (suc n) 0 (λ z. omega arith))
 
 -- ---- LSR by the number of bytes that are left
 
-pub none-left : (regs : List ℕ) (n : ℕ) → n ≡ 0 → WaitAfterRead regs n (set regs 5 (bitAnd (getD regs 5 0) 0xfe))
-unfolding lsrAfterRead
-none-left regs n z [] e = refl
-none-left regs n z (x ∷ xs) e = absurd (omega arith)
+pub none-left : (regs : List ℕ) (n lsr : ℕ) → n ≡ 0 → lsr ≡ lsrAfterRead false (getD regs 5 0) → WaitAfterRead regs n (set regs 5 lsr)
+none-left regs n lsr z l [] e = rw l
+none-left regs n lsr z l (x ∷ xs) e = absurd (omega arith)
 
 pub some-left : (regs : List ℕ) (n : ℕ) → (n ≡ 0 → ⊥) → WaitAfterRead regs n regs
 unfolding lsrAfterRead

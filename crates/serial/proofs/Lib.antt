@@ -1,5 +1,4 @@
 -- Laws of the rooms, then of the memory, then what each answer of the code is in the definition, then the runs.
-pub mod RingLaws
 pub mod Leaves
 pub mod Addressing
 pub mod Registers

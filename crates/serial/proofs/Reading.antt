@@ -6,14 +6,16 @@ use Prim.Native.Nat.{ℕ, zero, suc, _+_, _-_, _%_, _≤_}
 use native.Mathlib.Omega.{arith}
 use lib.ListN.{length, getD, set}
 use lib.Seq.{getD-set-other, set-getD, drop-set-lt}
-use Rattle.serial.specs.Interrupts.{receivedData, unmark, iirRead, iirAfterRead}
-use Rattle.serial.specs.LineStatus.{lsrAfterRead}
-use Rattle.serial.specs.Port.{Port, Register, isOpen, addressed, replies, readRegister, readRbr, readOf}
-use Rattle.serial.specs.Ring.{queue}
+use mathlib.Core.Bool.{Bool, true}
+use Rattle.common.specs.Lists.{some}
+use Rattle.interrupts.specs.Interrupts.{identification, afterIdentification, afterDataRead}
+use Rattle.line_status.specs.LineStatus.{lsrAfterRead}
+use Rattle.serial.specs.Port.{Port, Register, isOpen, addressed, replies, readRegister, readRbr, readIir, readOf}
+use Rattle.ring.specs.Ring.{queue}
 use Rattle.serial.specs.Layout.{places, startOf, countOf, portOf, sparePositions}
 use Rattle.serial.specs.Calls.{Reads}
 use Rattle.serial.specs.Inside.{WaitAfterRead, Taken}
-use Rattle.serial.proofs.RingLaws.{queue-length, queue-first}
+use Rattle.ring.proofs.Laws.{queue-length, queue-first}
 use Rattle.serial.proofs.Registers.{Stored, one-stored, then-stored, marks, receiver, placed}
 use Rattle.serial.proofs.Answering.{as-it-was, registers-alone, other-count}
 
@@ -54,13 +56,14 @@ module _ (regs pos ring : List ℕ) where
   hands-on offset r a h = rw a h
 
   module _ (n : length regs ≡ 16) where
-    pub answers-iir : (offset r : ℕ) → offset ≡ 2 → r ≡ iirRead (p .iir) → Reads (λ q. readOf q offset) regs pos ring (set regs 2 iirAfterRead) pos r
-    unfolding readRegister addressed
-    answers-iir offset r e b = rw e (registers-alone n (one-stored regs 2 _ (omega arith)) (marks regs pos ring n iirAfterRead) (rw b (omega arith)))
+    pub identifies : (waits : Bool) {iir r : ℕ} → iir ≡ afterIdentification (getD regs 1 0) (getD regs 2 0) waits → r ≡ identification (getD regs 1 0) (getD regs 2 0) waits
+        → Reads readIir regs pos ring (set regs 2 iir) pos r
+    unfolding portOf
+    identifies waits e b = rw e (registers-alone n (one-stored regs 2 _ (omega arith)) (marks regs pos ring n _) (rw b (omega arith)))
 
-    -- RBR: u is IIR with received data unmarked, k bytes wait
-    module _ (u : ℕ) (w : u ≡ unmark (p .iir) receivedData) (k : ℕ) (c : k ≡ countOf pos) {regs′ : List ℕ} where
-      with-lsr : (m : ℕ) → WaitAfterRead (set regs 2 u) m regs′ → (left : List ℕ) → length left ≡ m → regs′ ≡ set (set regs 2 u) 5 (lsrAfterRead left (p .lsr))
+    -- RBR: u is IIR after the read, k bytes wait
+    module _ (u : ℕ) (more : Bool) (w : u ≡ afterDataRead (p .settings .ier) (p .iir) more) (k : ℕ) (c : k ≡ countOf pos) {regs′ : List ℕ} where
+      with-lsr : (m : ℕ) → WaitAfterRead (set regs 2 u) m regs′ → (left : List ℕ) → length left ≡ m → regs′ ≡ set (set regs 2 u) 5 (lsrAfterRead (some left) (p .lsr))
       unfolding portOf
       with-lsr m e left l = e left l ∙ rw (getD-set-other regs 2 5 u 0 (λ x. omega arith))
 
@@ -78,11 +81,11 @@ module _ (regs pos ring : List ℕ) where
           let left : List ℕ = queue places ring s (k - 1) in
           let there = placed pos (k - 1) (t .long) (omega arith) s in
           let lies : queue places ring (startOf pos) (countOf pos) ≡ b ∷ left = rw (sym c, t .byte) (queue-first places ring (startOf pos) k z) in
-          let holds = receiver regs pos ring n u (lsrAfterRead left (p .lsr)) (set (set pos 0 s) 1 (k - 1)) ring {waiting = left} (rw (there .0, there .1)) in
+          let holds = receiver regs pos ring n u (lsrAfterRead (some left) (p .lsr)) (set (set pos 0 s) 1 (k - 1)) ring {waiting = left} (rw (there .0, there .1)) in
           rw (t .moved, with-lsr (k - 1) e left (queue-length places ring s (k - 1))) (other-count (holds ∙ rw (lies, w)) refl (both-stored regs u _) (moved-spare pos s (k - 1)) (λ same. z (omega (arith, there .1))) (rw lies (omega arith)))
 
-    -- RBR where received data is not marked: IIR stays
-    pub reads-unmarked : (k b : ℕ) → k ≡ countOf pos → unmark (p .iir) receivedData ≡ p .iir → {regs′ pos′ : List ℕ} → Taken pos ring k pos′ b → (k ≡ 0 → ⊥) → WaitAfterRead regs (k - 1) regs′
+    -- RBR where IIR stays
+    pub reads-unmarked : (k b : ℕ) → k ≡ countOf pos → ((ier : ℕ) (more : Bool) → afterDataRead ier (p .iir) more ≡ p .iir) → {regs′ pos′ : List ℕ} → Taken pos ring k pos′ b → (k ≡ 0 → ⊥) → WaitAfterRead regs (k - 1) regs′
         → Reads readRbr regs pos ring regs′ pos′ b
     unfolding portOf
-    reads-unmarked k b c u t z e = reads-first (p .iir) (sym u) k c b t z (rw (set-getD regs 2 0) e)
+    reads-unmarked k b c u t z e = reads-first (p .iir) true (sym (u (p .settings .ier) true)) k c b t z (rw (set-getD regs 2 0) e)

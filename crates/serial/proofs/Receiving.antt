@@ -11,7 +11,8 @@ use borrow.Author.Tests.{eq-eqb, ne-eqb, lt-ltb, le-ltb}
 use Rattle.serial.specs.Port.{Port, inLoop, hasRoom, roomOf, receives, writeLoop, inputOf}
 use Rattle.serial.specs.Layout.{size, places, startOf, countOf, portOf, unusedOf, sparePositions}
 use Rattle.serial.specs.Calls.{Answers, Writes, TakesInput, HasRoom}
-use Rattle.serial.specs.Inside.{Put, Received}
+use Rattle.ring.specs.Ring.{Put}
+use Rattle.serial.specs.Inside.{Received}
 use Rattle.serial.proofs.Registers.{Stored, one-stored, then-stored, receiver, counted}
 use Rattle.serial.proofs.Answering.{waiting-length, as-it-was, other-count}
 

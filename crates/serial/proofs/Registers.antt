@@ -7,7 +7,7 @@ use native.Mathlib.Omega.{arith}
 use lib.ListN.{length, set, length-set}
 use lib.Seq.{drop-set-lt}
 use Rattle.serial.specs.Port.{Port, Settings, fresh, withSettings, withReceiver, putIer}
-use Rattle.serial.specs.Ring.{queue}
+use Rattle.ring.specs.Ring.{queue}
 use Rattle.serial.specs.Layout.{size, places, startOf, countOf, portOf, spareRegisters, sparePositions}
 use Rattle.serial.specs.Calls.{MakesFresh}
 

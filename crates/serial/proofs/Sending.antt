@@ -5,12 +5,13 @@ use mathlib.Core.Bool.{true, false}
 use mathlib.Core.List.{List, [], _∷_}
 use Prim.Native.Nat.{ℕ, _+_, _*_, _≤_, _<_}
 use native.Mathlib.Omega.{arith}
-use lib.ListN.{length, set}
-use Rattle.serial.specs.Interrupts.{transmitterEmpty}
-use Rattle.serial.specs.Port.{Port, Settings, Register, RBR-THR, IER, LCR, MCR, SCR, isOpen, inLoop, addressed, withSettings, stores, putLcr, putMcr, putScr, putDll, putDlm, writeIer, writeLine, writeLoop, writeRegister, writeOf}
+use lib.ListN.{length, getD, set}
+use Rattle.interrupts.specs.Interrupts.{byteSent}
+use Rattle.interrupts.specs.Calls.{Tells}
+use mathlib.Core.Bool.{Bool}
+use Rattle.serial.specs.Port.{Port, Settings, Register, RBR-THR, IER, LCR, MCR, SCR, isOpen, inLoop, addressed, withSettings, stores, putLcr, putMcr, putScr, putDll, putDlm, writeIer, writeLine, writeLoop, writeThr, writeRegister, writeOf}
 use Rattle.serial.specs.Layout.{portOf}
 use Rattle.serial.specs.Calls.{Writes}
-use Rattle.serial.specs.Inside.{Announces}
 use Rattle.serial.proofs.Registers.{one-stored, setting, marks}
 use Rattle.serial.proofs.Addressing.{at-dll, at-dlm, unwritten}
 use Rattle.serial.proofs.Answering.{as-it-was, registers-alone}
@@ -20,11 +21,11 @@ module _ (regs pos ring : List ℕ) where
   p = portOf regs pos ring
 
   -- A byte goes out.
-  pub line-sends : length regs ≡ 16 → (v : ℕ) {regs′ : List ℕ} {raises r : ℕ} → Announces regs transmitterEmpty regs′ raises → r ≡ v + 0x2_0000 + 0x100_0000 * raises
-      → Writes (λ q. writeLine q v) regs pos ring regs′ pos ring r
+  pub line-sends : length regs ≡ 16 → (v : ℕ) {iir raises r : ℕ} (waits : Bool) → Tells (byteSent (getD regs 1 0) (getD regs 2 0) waits) iir raises 1 → r ≡ v + 0x2_0000 + 0x100_0000 * raises
+      → Writes (λ q. writeLine q v) regs pos ring (set regs 2 iir) pos ring r
   unfolding portOf writeLine
-  line-sends n v {r = r} a e =
-      rw (a .marked) (registers-alone n (one-stored regs 2 _ (omega arith)) (marks regs pos ring n _) (rw (e, a .raised)))
+  line-sends n v waits a e =
+      rw (a .stored) (registers-alone n (one-stored regs 2 _ (omega arith)) (marks regs pos ring n _) (rw (e, a .raised)))
 
   -- A setting is stored at place k: the first `refl` says which register it is, the second that it lies there.
   module _ (n : length regs ≡ 16) (offset v : ℕ) where
@@ -59,16 +60,20 @@ module _ (regs pos ring : List ℕ) where
   pub stores-nothing : (offset v : ℕ) → 2 ≤ offset → (offset ≡ 3 → ⊥) → (offset ≡ 4 → ⊥) → (offset ≡ 7 → ⊥) → Writes (λ q. writeOf q offset v) regs pos ring regs pos ring 0
   stores-nothing offset v h a b c = rw (unwritten (isOpen p) offset p v h a b c) (as-it-was refl refl)
 
-  -- THR and IER, by calls of their own.
-  pub sends : (offset v r : ℕ) {regs′ pos′ ring′ : List ℕ} → addressed (isOpen p) offset ≡ RBR-THR → inLoop p ≡ false → Writes (λ q. writeLine q v) regs pos ring regs′ pos′ ring′ r
-      → Writes (λ q. writeOf q offset v) regs pos ring regs′ pos′ ring′ r
-  unfolding writeRegister
-  sends offset v r a o h = rw (a, o) h
+  -- THR in the loop, and on the line.
+  pub loops : (v r : ℕ) {regs′ pos′ ring′ : List ℕ} → inLoop p ≡ true → Writes (λ q. writeLoop q v) regs pos ring regs′ pos′ ring′ r
+      → Writes (λ q. writeThr q v) regs pos ring regs′ pos′ ring′ r
+  loops v r o h = rw o h
 
-  pub loops : (offset v r : ℕ) {regs′ pos′ ring′ : List ℕ} → addressed (isOpen p) offset ≡ RBR-THR → inLoop p ≡ true → Writes (λ q. writeLoop q v) regs pos ring regs′ pos′ ring′ r
+  pub sends : (v r : ℕ) {regs′ pos′ ring′ : List ℕ} → inLoop p ≡ false → Writes (λ q. writeLine q v) regs pos ring regs′ pos′ ring′ r
+      → Writes (λ q. writeThr q v) regs pos ring regs′ pos′ ring′ r
+  sends v r o h = rw o h
+
+  -- THR and IER, by calls of their own.
+  pub transmits : (offset v r : ℕ) {regs′ pos′ ring′ : List ℕ} → addressed (isOpen p) offset ≡ RBR-THR → Writes (λ q. writeThr q v) regs pos ring regs′ pos′ ring′ r
       → Writes (λ q. writeOf q offset v) regs pos ring regs′ pos′ ring′ r
   unfolding writeRegister
-  loops offset v r a o h = rw (a, o) h
+  transmits offset v r a h = rw a h
 
   pub enables : (offset v r : ℕ) {regs′ pos′ ring′ : List ℕ} → addressed (isOpen p) offset ≡ IER → Writes (λ q. writeIer q v) regs pos ring regs′ pos′ ring′ r
       → Writes (λ q. writeOf q offset v) regs pos ring regs′ pos′ ring′ r

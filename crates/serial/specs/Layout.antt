@@ -3,7 +3,7 @@ use Prim.Native.Nat.{ℕ, _+_, _-_, min}
 use mathlib.Core.List.{List, [], _∷_}
 use lib.ListN.{getD, drop}
 use Rattle.serial.specs.Port.{Port}
-use Rattle.serial.specs.Ring.{queue}
+use Rattle.ring.specs.Ring.{queue, placesHere}
 
 -- How many bytes may wait.
 abbrev pub size : ℕ
@@ -11,7 +11,7 @@ size = 64
 
 -- How many places the ring has: places go round by this number.
 abbrev pub places : ℕ
-places = 1024
+places = placesHere
 
 -- At 0 and 1 of the positions lie the place of the first waiting byte, which goes round the ring, and the number of those that wait;
 -- a number above the size counts as the size.

@@ -1,9 +1,6 @@
--- In the order to read them: the rooms of the chip, the port made of them, how it lies in memory, what a call promises, which ports runs reach.
-pub mod Interrupts
-pub mod LineStatus
-pub mod Modem
+-- In the order to read them, behind the rooms (interrupts, line_status, modem, ring): the port made of them, how it lies in memory, what a call
+-- promises, which ports runs reach.
 pub mod Port
-pub mod Ring
 pub mod Layout
 pub mod Calls
 pub mod Sources

@@ -6,15 +6,15 @@ use lib.ListN.{length, take}
 use lib.Dec.{ltb, eqb}
 use Rattle.common.specs.Bits.{on}
 use Rattle.common.specs.Lists.{some, firstOr0}
-use Rattle.serial.specs.Interrupts.{receivedData, transmitterEmpty, ierStored, nonePending, unmark, announce, iirRead, iirAfterRead}
-use Rattle.serial.specs.LineStatus.{lsrReady, lsrAfterRead}
-use Rattle.serial.specs.Modem.{isLoop, msrRead}
+use Rattle.interrupts.specs.Interrupts.{ierStored, nonePending, identification, afterIdentification, afterDataRead, dataCame, byteSent, enabling}
+use Rattle.line_status.specs.LineStatus.{lsrReady, lsrAfterRead}
+use Rattle.modem.specs.Modem.{isLoop, msrRead}
 
 -- ---- Registers
 
 -- The data sheet's names; RBR is read and THR written at one offset, and so are IIR and FCR.
 pub data Register : Type 0 where
-  RBR-THR IER IIR-FCR LCR MCR LSR MSR SCR DLL DLM beyond : Register
+  RBR-THR IER IIR-FCR LCR MCR LSR MSR SCR DLL DLM reserved : Register
 
 -- The register at an offset. While LCR 0x80 (DLAB) is set, offsets 0 and 1 are the divisor's low and high byte.
 unfoldable pub addressed : Bool → ℕ → Register
@@ -27,7 +27,7 @@ addressed dlab offset =
     (cond (eqb offset 5) LSR
     (cond (eqb offset 6) MSR
     (cond (eqb offset 7) SCR
-    beyond)))))))
+    reserved)))))))
 
 -- ---- State
 
@@ -88,45 +88,22 @@ replies p value = record { port = p; reply = value; sent = []; raises = 0 }
 abbrev pub becomes : Port → Out
 becomes p = replies p 0
 
--- ---- Reads
+-- ---- RBR and THR
 
--- RBR: the first byte that waits leaves; 0 where none waits: DIFFERENCES, "serial-empty-receiver". Received data is unmarked even if more wait:
--- DIFFERENCES, "serial-forgotten-data".
+-- RBR: the first byte that waits leaves; 0 where none waits: DIFFERENCES, "serial-empty-receiver".
 abbrev pub readRbr : Port → Out
 readRbr p =
     let left = tail (p .waiting) in
-    replies (withReceiver p (unmark (p .iir) receivedData) (lsrAfterRead left (p .lsr)) left) (firstOr0 (p .waiting))
+    replies (withReceiver p (afterDataRead (p .settings .ier) (p .iir) (some left)) (lsrAfterRead (some left) (p .lsr)) left) (firstOr0 (p .waiting))
 
-abbrev pub readIir : Port → Out
-readIir p = replies (withReceiver p iirAfterRead (p .lsr) (p .waiting)) (iirRead (p .iir))
-
-unfoldable pub readRegister : Port → Register → Out
-readRegister p RBR-THR = readRbr p
-readRegister p IER = replies p (p .settings .ier)
-readRegister p IIR-FCR = readIir p
-readRegister p LCR = replies p (p .settings .lcr)
-readRegister p MCR = replies p (p .settings .mcr)
-readRegister p LSR = replies p (p .lsr)
-readRegister p MSR = replies p (msrRead (p .settings .mcr) (p .msr))
-readRegister p SCR = replies p (p .settings .scr)
-readRegister p DLL = replies p (p .settings .dll)
-readRegister p DLM = replies p (p .settings .dlm)
-readRegister p beyond = replies p 0
-
-abbrev pub readOf : Port → ℕ → Out
-readOf p offset = readRegister p (addressed (isOpen p) offset)
-
--- ---- Bytes come to the receiver: they wait behind the others, data is ready, received data is announced
-
+-- Bytes come to the receiver: they wait behind the others, data is ready, received data is announced.
 unfoldable pub receives : Port → List ℕ → Out
 receives p bytes =
-    let a = announce (p .settings .ier) (p .iir) receivedData in
+    let a = dataCame (p .settings .ier) (p .iir) (some (p .waiting)) in
     record { port = withReceiver p (a .iir) (lsrReady (p .lsr)) (p .waiting ++ bytes); reply = 0; sent = []; raises = a .raises }
 
 abbrev pub hasRoom : Port → Bool
 hasRoom p = ltb (length (p .waiting)) (p .size)
-
--- ---- Writes
 
 -- THR in the loop: the byte comes to the receiver. Where that is full the byte is lost with no word: DIFFERENCES, "serial-loop-overrun".
 -- An empty transmitter is not announced: DIFFERENCES, "serial-loop-transmitter".
@@ -136,11 +113,13 @@ writeLoop p value = cond (hasRoom p) (receives p (value ∷ [])) (becomes p)
 -- THR on the line: the byte is sent and has left at once; the empty transmitter is announced, whether or not the host delivers the byte.
 unfoldable pub writeLine : Port → ℕ → Out
 writeLine p value =
-    let a = announce (p .settings .ier) (p .iir) transmitterEmpty in
+    let a = byteSent (p .settings .ier) (p .iir) (some (p .waiting)) in
     record { port = withReceiver p (a .iir) (p .lsr) (p .waiting); reply = 0; sent = value ∷ []; raises = a .raises }
 
 abbrev pub writeThr : Port → ℕ → Out
 writeThr p value = cond (inLoop p) (writeLoop p value) (writeLine p value)
+
+-- ---- The registers that keep what is written
 
 -- The settings with one register written.
 abbrev pub putIer : Settings → ℕ → Settings
@@ -164,30 +143,54 @@ putDlm s v = record { ier = s .ier; lcr = s .lcr; mcr = s .mcr; scr = s .scr; dl
 abbrev pub stores : Port → Settings → Out
 stores p s = becomes (withSettings p s)
 
--- IER: the value is stored, and under it what there is to announce is announced: received data if bytes wait, then the empty transmitter, which it
--- always is. By the manual setting 0x02 signals an empty transmitter; here it is announced also where 0x02 was set before: DIFFERENCES,
--- "serial-transmitter-again". A mark that was kept while its kind was disabled is not raised again: DIFFERENCES, "serial-quiet-enable".
+-- ---- IER
+
+-- IER: the value is stored, and under it what there is to announce is announced.
 unfoldable pub writeIer : Port → ℕ → Out
 writeIer p value =
     let s = putIer (p .settings) (ierStored value) in
-    let a = cond (some (p .waiting)) (announce (s .ier) (p .iir) receivedData) (record { iir = p .iir; raises = 0 }) in
-    let b = announce (s .ier) (a .iir) transmitterEmpty in
-    record { port = withReceiver (withSettings p s) (b .iir) (p .lsr) (p .waiting); reply = 0; sent = []; raises = a .raises + b .raises }
+    let a = enabling (s .ier) (p .iir) (some (p .waiting)) in
+    record { port = withReceiver (withSettings p s) (a .iir) (p .lsr) (p .waiting); reply = 0; sent = []; raises = a .raises }
 
--- FCR: nothing happens: DIFFERENCES, "serial-fifo-off", "serial-fifo-empty" and "serial-trigger-level". LSR, MSR and the offsets beyond are not
+-- ---- IIR
+
+-- What is pending.
+abbrev pub readIir : Port → Out
+readIir p =
+    let ier = p .settings .ier in
+    let waits = some (p .waiting) in
+    replies (withReceiver p (afterIdentification ier (p .iir) waits) (p .lsr) (p .waiting)) (identification ier (p .iir) waits)
+
+-- ---- Each register: what a read of it does, and a write
+
+pub record Rule : Type 0 where
+  pub read : Out
+  pub write : ℕ → Out
+
+-- FCR: nothing happens: DIFFERENCES, "serial-fifo-off", "serial-fifo-empty" and "serial-trigger-level". LSR, MSR and the reserved offsets are not
 -- written: DIFFERENCES, "serial-read-only" and "serial-beyond".
+abbrev pub rule : Port → Register → Rule
+rule p RBR-THR = record { read = readRbr p; write = writeThr p }
+rule p IER = record { read = replies p (p .settings .ier); write = writeIer p }
+rule p IIR-FCR = record { read = readIir p; write = λ v. becomes p }
+rule p LCR = record { read = replies p (p .settings .lcr); write = λ v. stores p (putLcr (p .settings) v) }
+rule p MCR = record { read = replies p (p .settings .mcr); write = λ v. stores p (putMcr (p .settings) v) }
+rule p LSR = record { read = replies p (p .lsr); write = λ v. becomes p }
+rule p MSR = record { read = replies p (msrRead (p .settings .mcr) (p .msr)); write = λ v. becomes p }
+rule p SCR = record { read = replies p (p .settings .scr); write = λ v. stores p (putScr (p .settings) v) }
+rule p DLL = record { read = replies p (p .settings .dll); write = λ v. stores p (putDll (p .settings) v) }
+rule p DLM = record { read = replies p (p .settings .dlm); write = λ v. stores p (putDlm (p .settings) v) }
+rule p reserved = record { read = replies p 0; write = λ v. becomes p }
+
+unfoldable pub readRegister : Port → Register → Out
+readRegister p register = rule p register .read
+
 unfoldable pub writeRegister : Port → Register → ℕ → Out
-writeRegister p RBR-THR v = writeThr p v
-writeRegister p IER v = writeIer p v
-writeRegister p IIR-FCR v = becomes p
-writeRegister p LCR v = stores p (putLcr (p .settings) v)
-writeRegister p MCR v = stores p (putMcr (p .settings) v)
-writeRegister p LSR v = becomes p
-writeRegister p MSR v = becomes p
-writeRegister p SCR v = stores p (putScr (p .settings) v)
-writeRegister p DLL v = stores p (putDll (p .settings) v)
-writeRegister p DLM v = stores p (putDlm (p .settings) v)
-writeRegister p beyond v = becomes p
+writeRegister p register value = rule p register .write value
+
+-- An access is one of the register at its offset.
+abbrev pub readOf : Port → ℕ → Out
+readOf p offset = readRegister p (addressed (isOpen p) offset)
 
 abbrev pub writeOf : Port → ℕ → ℕ → Out
 writeOf p offset value = writeRegister p (addressed (isOpen p) offset) value

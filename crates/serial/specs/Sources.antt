@@ -1,7 +1,7 @@
 -- The two sources that interrupt, and what is enabled, marked and present of them in a port.
 use mathlib.Core.Bool.{Bool, true}
 use Rattle.common.specs.Lists.{some}
-use Rattle.serial.specs.Interrupts.{Kind, receivedData, transmitterEmpty, isEnabled, isMarked}
+use Rattle.interrupts.specs.Interrupts.{Kind, receivedData, transmitterEmpty, isEnabled, isMarked}
 use Rattle.serial.specs.Port.{Port}
 
 pub data Source : Type 0 where

@@ -1,13 +1,12 @@
 // A 16550 serial port in memory that its host lends, in place: nothing is copied, and any bytes are
 // some port. The host hands each access of the guest to these functions and acts on the answer.
 pub mod answer;
-mod interrupts;
-mod line_status;
+mod ier;
+mod iir;
 pub mod memory;
-mod modem;
 mod receiver;
-pub mod ring;
 mod transmitter;
+pub mod waiting;
 
 use answer::ONE_RAISE;
 use answer::REFUSED;
@@ -99,10 +98,7 @@ pub fn read(regs: &mut Regs, pos: &mut Pos, ring: &Ring, offset: u8) -> u32
             return memory::wide(regs[IER]);
         }
         2 => {
-            memory::regs_len(regs);
-            let iir = regs[IIR];
-            regs[IIR] = interrupts::AFTER_READ;
-            return memory::wide(interrupts::iir_read(iir));
+            return iir::read(regs, pos);
         }
         6 => {
             return memory::wide(modem::msr_read(regs[MCR], regs[MSR]));
@@ -131,12 +127,9 @@ pub fn write(regs: &mut Regs, pos: &mut Pos, ring: &mut Ring, offset: u8, value:
             return 0;
         }
         if offset == 0 {
-            if modem::is_loop(regs[MCR]) {
-                return receiver::write_loop(regs, pos, ring, value);
-            }
-            return transmitter::write_line(regs, value);
+            return transmitter::write_thr(regs, pos, ring, value);
         }
-        return interrupts::write_ier(regs, pos, value);
+        return ier::write(regs, pos, value);
     }
     match offset {
         3 => {
@@ -168,13 +161,13 @@ pub fn input(regs: &mut Regs, pos: &mut Pos, ring: &mut Ring, input: &[u8]) -> u
     if len == 0 {
         return 0;
     }
-    let n = ring::count(pos);
+    let n = waiting::count(pos);
     if n == memory::SIZE {
         return REFUSED;
     }
     memory::regs_len(regs);
     memory::pos_len(pos);
-    let k = ring::fitting(n, len);
+    let k = waiting::fitting(n, len);
     ring::fill(ring, pos[START], n, input, k);
     let taken = k as u32;
     taken + ONE_RAISE * receiver::receive(regs, pos, n + taken)
@@ -184,5 +177,5 @@ pub fn input(regs: &mut Regs, pos: &mut Pos, ring: &mut Ring, input: &[u8]) -> u
 pub fn room(pos: &Pos) -> u32
     ensures { λ r. ⌜ HasRoom (now (pos .entry)) r ⌝ }
 {
-    memory::SIZE - ring::count(pos)
+    memory::SIZE - waiting::count(pos)
 }

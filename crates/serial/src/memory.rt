@@ -13,9 +13,9 @@ pub type Regs = [u8; 16];
 pub type Pos = [u32; 4];
 
 // The places in which bytes wait.
-pub type Ring = [u8; 1024];
+pub type Ring = ring::Ring;
 
-pub const PLACES: u32 = 1024;
+pub const PLACES: u32 = ring::PLACES;
 
 // How many bytes may wait.
 pub const SIZE: u32 = 64;

@@ -11,9 +11,9 @@ use lib.Dec.{leb}
 use lib.ListN.{length, getD, take, drop}
 use lib.Seq.{take-suc}
 use Rattle.serial.specs.Port.{Port, roomOf}
-use Rattle.serial.specs.Ring.{queue}
+use Rattle.ring.specs.Ring.{queue}
 use Rattle.serial.specs.Layout.{size, places, portOf, spareRegisters, freshSpareRegisters}
-use Rattle.serial.proofs.RingLaws.{queue-split}
+use Rattle.ring.proofs.Laws.{queue-split}
 use Rattle.serial.proofs.Bounds.{memory-fits}
 use Rattle.serial_saved.specs.Saved.{savedOf}
 use Rattle.serial_saved.specs.Calls.{Saves}

@@ -13,12 +13,12 @@ use lib.Dec.{eqb}
 use lib.ListN.{length, getD, take}
 use Rattle.common.specs.Lists.{some}
 use Rattle.serial.specs.Port.{Port, Out, Input, readOf, writeOf, inputOf, isOpen, inLoop, hasRoom, becomes, receives, takesNone, takesSome}
-use Rattle.serial.specs.Port.{Register, RBR-THR, IER, IIR-FCR, LCR, MCR, LSR, MSR, SCR, DLL, DLM, beyond, addressed, writeRegister, writeLine, writeIer}
-use Rattle.serial.specs.Ring.{queue}
+use Rattle.serial.specs.Port.{Register, RBR-THR, IER, IIR-FCR, LCR, MCR, LSR, MSR, SCR, DLL, DLM, reserved, addressed, writeRegister, writeLine, writeIer}
+use Rattle.ring.specs.Ring.{queue}
 use Rattle.serial.specs.Layout.{size, places, portOf, spareRegisters, freshSpareRegisters}
 use Rattle.serial.specs.Calls.{Reads, Writes, TakesInput, writeWord, inputWord}
 use Rattle.serial.proofs.Bounds.{read-word}
-use Rattle.serial.proofs.RingLaws.{queue-length, queue-round, queue-split}
+use Rattle.ring.proofs.Laws.{queue-length, queue-round, queue-split}
 use Rattle.serial_saved.specs.Saved.{Restore, savedOf, restoreOf}
 use Rattle.serial_saved.specs.Calls.{Restores}
 use Rattle.serial_saved.proofs.Bringing.{same-port, too-many, enough}
@@ -68,7 +68,7 @@ value-or-none p MSR value = inl refl
 value-or-none p SCR value = inl refl
 value-or-none p DLL value = inl refl
 value-or-none p DLM value = inl refl
-value-or-none p beyond value = inl refl
+value-or-none p reserved value = inl refl
 
 write-parts : (o : Out) (value : ℕ) → value < 256 → (o .sent ≡ []) ⊎ (o .sent ≡ value ∷ [])
     → (sentPart (writeWord o % 0x100_0000) ≡ sentSays (o .sent)) × (writeWord o / 0x100_0000 ≡ o .raises)

@@ -37,7 +37,7 @@ ghost use lib.ListN.{drop};
 ghost use Rattle.serial.specs.Calls.{MakesFresh};
 ghost use Rattle.serial.specs.Layout.{size, places, portOf};
 ghost use Rattle.serial.specs.Port.{roomOf};
-ghost use Rattle.serial.specs.Ring.{queue};
+ghost use Rattle.ring.specs.Ring.{queue};
 ghost use Rattle.serial_saved.specs.Saved.{savedOf};
 ghost use Rattle.words.specs.Put.{Puts};
 ghost use Rattle.words.specs.Text.{text};

@@ -12,13 +12,12 @@ use lib.ListN.{length, set, take, drop}
 use lib.Seq.{take-length}
 use borrow.Author.Tests.{le-leb, lt-leb}
 use Rattle.serial.specs.Port.{Port}
-use Rattle.serial.specs.Ring.{queue}
+use Rattle.ring.specs.Ring.{queue}
 use Rattle.serial.specs.Layout.{size, places, startOf, countOf, portOf, unusedOf, sparePositions}
-use Rattle.serial.specs.Inside.{Put}
+use Rattle.ring.specs.Ring.{Put, Unrolled}
 use Rattle.serial.proofs.Answering.{waiting-length}
 use Rattle.serial_saved.specs.Saved.{savedOf, raisedAgain, Restore, restoreOf}
 use Rattle.serial_saved.specs.Calls.{Saves, restoreWord, ReachableSaved, Restores}
-use Rattle.serial_saved.specs.Inside.{Unrolled}
 
 -- Registers and waiting bytes are the whole port.
 pub same-port : (regs pos ring waiting : List ℕ)
@@ -28,7 +27,7 @@ same-port regs pos ring waiting e = rw e refl
 
 -- ---- Save
 
-pub saves : (regs pos ring waiting saved′ waiting′ : List ℕ) (n : ℕ) → n ≡ countOf pos → saved′ ≡ regs → Unrolled ring (startOf pos) n waiting waiting′
+pub saves : (regs pos ring waiting saved′ waiting′ : List ℕ) (n : ℕ) → n ≡ countOf pos → saved′ ≡ regs → Unrolled places ring (startOf pos) n waiting waiting′
     → Saves regs pos ring waiting saved′ waiting′ n
 unfolding portOf
 saves regs pos ring waiting saved′ waiting′ n e s u =

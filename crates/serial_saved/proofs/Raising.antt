@@ -1,16 +1,15 @@
 -- How often the interrupt is raised again.
 -- Assumes nothing.
-use mathlib.Core.Path.{_≡_, refl, sym, ap₂, _∙_}
+use mathlib.Core.Path.{_≡_, refl, sym, _∙_}
 use mathlib.Core.Bool.{Bool, true, false, cond}
 use mathlib.Core.List.{List, [], _∷_, _++_}
 use Prim.Native.Nat.{ℕ, _+_, _≤_}
 use native.Mathlib.Omega.{arith}
 use lib.ListN.{length, getD}
-use Rattle.serial.specs.Interrupts.{receivedData, transmitterEmpty}
+use Rattle.interrupts.specs.Interrupts as interrupts
 use Rattle.serial.specs.Layout.{portOf}
 use Rattle.serial.specs.Port.{Port}
 use Rattle.serial.specs.Sources.{Source, receiver, transmitter}
-use Rattle.serial_saved.specs.Inside.{Raised}
 use Rattle.serial_saved.specs.Saved.{savedOf, isTold, ifTold, raisedAgain}
 
 -- Once for each of the two that is told, and so twice at most.
@@ -28,7 +27,7 @@ pub at-most-two : (p : Port) → length (raisedAgain p) ≤ 2
 at-most-two p = counted p .1
 
 -- IER lies at 1, IIR at 2.
-pub both : (saved : List ℕ) (a b : ℕ) → Raised (getD saved 1 0) (getD saved 2 0) transmitterEmpty a → Raised (getD saved 1 0) (getD saved 2 0) receivedData b
-    → (waiting : List ℕ) → a + b ≡ length (raisedAgain (savedOf saved waiting))
+pub as-raised : (saved : List ℕ) (waits : Bool) (r : ℕ) → r ≡ interrupts.raisedAgain (getD saved 1 0) (getD saved 2 0) waits
+    → (waiting : List ℕ) → r ≡ length (raisedAgain (savedOf saved waiting))
 unfolding savedOf portOf
-both saved a b e f waiting = ap₂ _+_ (e .exactly) (f .exactly) ∙ sym (counted (savedOf saved waiting) .0)
+as-raised saved waits r e waiting = e ∙ sym (counted (savedOf saved waiting) .0)

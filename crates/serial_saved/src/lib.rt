@@ -12,20 +12,16 @@ use serial::memory::Pos;
 use serial::memory::Regs;
 use serial::memory::Ring;
 use serial::memory::START;
-use serial::ring;
+use serial::waiting::count;
 ghost use mathlib.Core.Path.{_≡_};
 ghost use mathlib.Core.List.{List};
-ghost use Prim.Native.Nat.{ℕ, _≤_};
+ghost use Prim.Native.Nat.{ℕ};
 ghost use lib.ListN.{length};
-ghost use Rattle.serial.specs.Layout.{size};
 ghost use Rattle.serial_saved.specs.Saved.{savedOf, raisedAgain};
 ghost use Rattle.serial_saved.specs.Calls.{Saves, Restores};
-ghost use Rattle.serial_saved.specs.Inside.{Unrolled, Raised};
 
 // How many bytes may wait.
 const SIZE: usize = memory::SIZE as usize;
-
-const PLACES: usize = memory::PLACES as usize;
 
 // All registers, the spare ones too.
 fn copy(from: &Regs, to: &mut Regs)
@@ -36,52 +32,21 @@ fn copy(from: &Regs, to: &mut Regs)
     bytes::copy(from, to);
 }
 
-// The n bytes from `start` on leave the ring's order and lie from the first place on.
-fn unroll(ring: &Ring, start: u32, n: u32, waiting: &mut Ring)
-    requires { ⌜ n ≤ size ⌝ }
-    ensures { λ r. ⌜ Unrolled (now (ring .entry)) start n (now (waiting .entry)) (now (waiting .exit)) ⌝ }
-{
-    memory::ring_len(waiting);
-    let from = (start % memory::PLACES) as usize;
-    let end = n as usize;
-    let mut i: usize = 0;
-    while i < end {
-        waiting[i] = ring[(from + i) % PLACES];
-        i += 1;
-    }
-}
-
 // The port as it stands: its registers, and the bytes that wait. The answer: how many bytes wait.
 pub fn save(regs: &Regs, pos: &Pos, ring: &Ring, saved: &mut Regs, waiting: &mut Ring) -> u32
     ensures { λ r. ⌜ Saves (now (regs .entry)) (now (pos .entry)) (now (ring .entry)) (now (waiting .entry)) (now (saved .exit)) (now (waiting .exit)) r ⌝ }
 {
-    let n = ring::count(pos);
+    let n = count(pos);
     copy(regs, saved);
-    unroll(ring, pos[START], n, waiting);
+    ring::unroll(ring, pos[START], n, waiting);
     n
 }
 
-// 1 where a kind is enabled and marked, else 0. Kinds go by their bits: `enabled` in IER, `marked` in
-// IIR.
-fn raise(ier: u8, iir: u8, enabled: u8, marked: u8) -> u32
-    ensures { λ r. ⌜ Raised ier iir (record { enabledBy = enabled; markedBy = marked }) r ⌝ }
-{
-    if ier & enabled == 0 {
-        return 0;
-    }
-    if iir & marked == 0 {
-        return 0;
-    }
-    1
-}
-
-// How often the interrupt is raised again: for the empty transmitter, then for received data.
-fn raises(saved: &Regs) -> u32
+// How often the interrupt is raised again; `waits` says whether a byte waits.
+fn raises(saved: &Regs, waits: bool) -> u32
     ensures { λ r. ⌜ ((waiting : List ℕ) → r ≡ length (raisedAgain (savedOf (now (saved .entry)) waiting))) ⌝ }
 {
-    let ier = saved[IER];
-    let iir = saved[IIR];
-    raise(ier, iir, 0x02, 0x02) + raise(ier, iir, 0x01, 0x04)
+    interrupts::raised_again(saved[IER], saved[IIR], waits)
 }
 
 // What was saved becomes the port. The answer: whether a run from a fresh port can have come to it,
@@ -99,5 +64,5 @@ pub fn restore(regs: &mut Regs, pos: &mut Pos, ring: &mut Ring, saved: &Regs, wa
     pos[COUNT] = len as u32;
     ring::fill(ring, 0, 0, waiting, len);
     let told = reachable::is_reachable(saved, waiting) as u32;
-    REACHABLE * told + ONE_RAISE * raises(saved)
+    REACHABLE * told + ONE_RAISE * raises(saved, len != 0)
 }

@@ -1,7 +1,7 @@
 -- Assumes nothing.
 use native.Mathlib.Omega.{arith}
 use borrow.Author.Tests.{ltb-true, ltb-false}
-use Rattle.serial.proofs.Leaves.{no}
+use Rattle.interrupts.proofs.Laws.{no}
 use Rattle.serial.proofs.is_status_or_control.Statement.{statement}
 use Rattle.serial.proofs.is_status_or_control.Tie as tie
 

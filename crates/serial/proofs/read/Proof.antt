@@ -5,8 +5,8 @@ use native.Mathlib.Omega.{arith}
 use Prim.Native.Nat.{ℕ, _≤_}
 use Rattle.serial.specs.Port.{addressed, readRegister}
 use Rattle.serial.specs.Layout.{portOf}
-use Rattle.serial.proofs.Addressing.{at-dll, at-dlm, at-data, at-ier, at-beyond}
-use Rattle.serial.proofs.Reading.{answers, answers-at, answers-kept, answers-iir, hands-on}
+use Rattle.serial.proofs.Addressing.{at-dll, at-dlm, at-data, at-ier, at-iir, at-reserved}
+use Rattle.serial.proofs.Reading.{answers, answers-at, answers-kept, hands-on}
 use borrow.Author.Needs.{needs}
 use Rattle.serial.proofs.read.Statement.{statement}
 use Rattle.serial.proofs.read.Tie as tie
@@ -76,24 +76,12 @@ returns-5 : tie.Need-returns-5
 unfolding portOf readRegister
 returns-5 c = let a = c .before .before .before .before .before .before .before .before .before .args in let one = c .before .before .before .before .before .match .keys1 in answers (a .regs .now) (a .pos .now) (a .ring .now) (a .offset) _ (at-ier _ _ (sym (c .before .before .before .is-open2 .ensures) ∙ c .before .before .if4 .left) (omega (arith, one)) (λ z. omega (arith, one))) refl (c .wide4 .ensures)
 
-regs-len-requires : tie.Need-regs-len-requires
-regs-len-requires c κs = search needs
-
-element-copy-out-iir : tie.Need-element-copy-out-iir
-element-copy-out-iir c = search needs
-
-element-write-regs : tie.Need-element-write-regs
-element-write-regs c = search needs
-
-iir-read-requires : tie.Need-iir-read-requires
-iir-read-requires c κs = search needs
-
-wide-requires-5 : tie.Need-wide-requires-5
-wide-requires-5 c κs = search needs
+read-requires : tie.Need-read-requires
+read-requires c κs = search needs
 
 returns-6 : tie.Need-returns-6
-unfolding portOf
-returns-6 c = let a = c .before .before .before .before .before .before .before .before .before .args in answers-iir (a .regs .now) (a .pos .now) (a .ring .now) (c .before .before .before .regs-len .ensures) (a .offset) _ (c .before .before .before .before .before .match .keys2) (c .wide5 .ensures ∙ c .before .iir-read .ensures)
+unfolding portOf readRegister
+returns-6 c = let a = c .before .before .before .before .before .before .before .args in hands-on (a .regs .now) (a .pos .now) (a .ring .now) (a .offset) _ (at-iir _ _ (c .before .before .before .match .keys2)) (c .read .ensures _)
 
 element-copy-out-msr-read : tie.Need-element-copy-out-msr-read
 element-copy-out-msr-read c = search needs
@@ -104,22 +92,22 @@ element-copy-out-msr-read-2 c = search needs
 msr-read-requires : tie.Need-msr-read-requires
 msr-read-requires c κs = search needs
 
-wide-requires-6 : tie.Need-wide-requires-6
-wide-requires-6 c κs = search needs
+wide-requires-5 : tie.Need-wide-requires-5
+wide-requires-5 c κs = search needs
 
 returns-7 : tie.Need-returns-7
 unfolding portOf addressed readRegister
-returns-7 c = let a = c .before .before .before .before .before .before .before .before .args in answers-at (a .regs .now) (a .pos .now) (a .ring .now) (a .offset) _ 6 (c .before .before .before .before .match .keys3) refl (c .wide6 .ensures ∙ c .before .msr-read .ensures)
+returns-7 c = let a = c .before .before .before .before .before .before .before .before .args in answers-at (a .regs .now) (a .pos .now) (a .ring .now) (a .offset) _ 6 (c .before .before .before .before .match .keys3) refl (c .wide5 .ensures ∙ c .before .msr-read .ensures)
 
 element-copy-out-wide-4 : tie.Need-element-copy-out-wide-4
 element-copy-out-wide-4 c = search needs
 
-wide-requires-7 : tie.Need-wide-requires-7
-wide-requires-7 c κs = search needs
+wide-requires-6 : tie.Need-wide-requires-6
+wide-requires-6 c κs = search needs
 
 returns-8 : tie.Need-returns-8
 unfolding portOf addressed readRegister
-returns-8 c = let a = c .before .before .before .before .before .before .args in answers-at (a .regs .now) (a .pos .now) (a .ring .now) (a .offset) _ 7 (c .before .before .match .keys4) refl (c .wide7 .ensures)
+returns-8 c = let a = c .before .before .before .before .before .before .args in answers-at (a .regs .now) (a .pos .now) (a .ring .now) (a .offset) _ 7 (c .before .before .match .keys4) refl (c .wide6 .ensures)
 
 from-two : (offset : ℕ) → (offset ≡ 0 → ⊥) → (offset ≡ 1 → ⊥) → 2 ≤ offset
 from-two offset a b = omega arith
@@ -132,7 +120,7 @@ returns-9 c =
     let zero = c .before .before .before .if1 .left in
     let kept = c .before .before .is-status-or-control .ensures .1 (c .before .if3 .left) in
     answers (a .regs .now) (a .pos .now) (a .ring .now) (a .offset) _
-    (at-beyond _ _ (from-two _ zero (m .0 .0 .0 .1)) (m .0 .0 .1) (λ e. kept (omega (arith, e)) (omega (arith, e))) (λ e. kept (omega (arith, e)) (omega (arith, e))) (λ e. kept (omega (arith, e)) (omega (arith, e))) (m .0 .1) (m .1)) refl refl
+    (at-reserved _ _ (from-two _ zero (m .0 .0 .0 .1)) (m .0 .0 .1) (λ e. kept (omega (arith, e)) (omega (arith, e))) (λ e. kept (omega (arith, e)) (omega (arith, e))) (λ e. kept (omega (arith, e)) (omega (arith, e))) (m .0 .1) (m .1)) refl refl
 
 pub read-spec : {M : Type 1} → statement M
 read-spec =
@@ -157,18 +145,14 @@ read-spec =
     element-copy-out-wide-3
     wide-requires-4
     returns-5
-    regs-len-requires
-    element-copy-out-iir
-    element-write-regs
-    iir-read-requires
-    wide-requires-5
+    read-requires
     returns-6
     element-copy-out-msr-read
     element-copy-out-msr-read-2
     msr-read-requires
-    wide-requires-6
+    wide-requires-5
     returns-7
     element-copy-out-wide-4
-    wide-requires-7
+    wide-requires-6
     returns-8
     returns-9)

@@ -3,7 +3,7 @@
 use mathlib.Core.Path.{sym, _∙_}
 use Rattle.serial.specs.Layout.{portOf}
 use Rattle.serial.proofs.Addressing.{at-data, at-ier}
-use Rattle.serial.proofs.Sending.{stores-dll, stores-dlm, stores-lcr, stores-mcr, stores-scr, stores-nothing, sends, loops, enables}
+use Rattle.serial.proofs.Sending.{stores-dll, stores-dlm, stores-lcr, stores-mcr, stores-scr, stores-nothing, transmits, enables}
 use borrow.Author.Needs.{needs}
 use Rattle.serial.proofs.write.Statement.{statement}
 use Rattle.serial.proofs.write.Tie as tie
@@ -31,57 +31,44 @@ returns-2 : tie.Need-returns-2
 unfolding portOf
 returns-2 c = let a = c .before .before .before .before .before .before .before .args in stores-dlm (a .regs .now) (a .pos .now) (a .ring .now) (c .before .before .before .before .before .regs-len .ensures) _ _ (sym (c .before .before .is-open .ensures) ∙ c .before .if2 .taken) (c .before .before .before .before .if1 .taken) (c .if3 .left)
 
-element-copy-out-is-loop : tie.Need-element-copy-out-is-loop
-element-copy-out-is-loop c = search needs
-
-is-loop-requires : tie.Need-is-loop-requires
-is-loop-requires c κs = search needs
-
-write-loop-requires : tie.Need-write-loop-requires
-write-loop-requires c κs = search needs
+write-thr-requires : tie.Need-write-thr-requires
+write-thr-requires c κs = search needs
 
 returns-3 : tie.Need-returns-3
 unfolding portOf
-returns-3 c = let a = c .before .before .before .before .before .before .before .before .before .before .before .before .before .before .args in loops (a .regs .now) (a .pos .now) (a .ring .now) (a .offset) _ _ (at-data _ _ (sym (c .before .before .before .before .before .before .before .before .before .is-open .ensures) ∙ c .before .before .before .before .before .before .before .before .if2 .left) (c .before .before .before .before .before .before .before .if4 .taken)) (sym (c .before .before .before .before .before .is-loop .ensures) ∙ c .before .before .before .before .if5 .taken) (c .write-loop .ensures)
+returns-3 c = let a = c .before .before .before .before .before .before .before .before .before .before .before .args in transmits (a .regs .now) (a .pos .now) (a .ring .now) (a .offset) _ _ (at-data _ _ (sym (c .before .before .before .before .before .before .is-open .ensures) ∙ c .before .before .before .before .before .if2 .left) (c .before .before .before .before .if4 .taken)) (c .write-thr .ensures)
 
-write-line-requires : tie.Need-write-line-requires
-write-line-requires c κs = search needs
+write-requires : tie.Need-write-requires
+write-requires c κs = search needs
 
 returns-4 : tie.Need-returns-4
 unfolding portOf
-returns-4 c = let a = c .before .before .before .before .before .before .before .before .before .before .before .before .args in sends (a .regs .now) (a .pos .now) (a .ring .now) (a .offset) _ _ (at-data _ _ (sym (c .before .before .before .before .before .before .before .is-open .ensures) ∙ c .before .before .before .before .before .before .if2 .left) (c .before .before .before .before .before .if4 .taken)) (sym (c .before .before .before .is-loop .ensures) ∙ c .before .before .if5 .left) (c .write-line .ensures _ _)
-
-write-ier-requires : tie.Need-write-ier-requires
-write-ier-requires c κs = search needs
-
-returns-5 : tie.Need-returns-5
-unfolding portOf
-returns-5 c = let a = c .before .before .before .before .before .before .before .before .before .before .args in enables (a .regs .now) (a .pos .now) (a .ring .now) (a .offset) _ _ (at-ier _ _ (sym (c .before .before .before .before .before .is-open .ensures) ∙ c .before .before .before .before .if2 .left) (c .before .before .before .before .before .before .before .if1 .taken) (c .before .before .before .if4 .left)) (c .write-ier .ensures _)
+returns-4 c = let a = c .before .before .before .before .before .before .before .before .before .before .args in enables (a .regs .now) (a .pos .now) (a .ring .now) (a .offset) _ _ (at-ier _ _ (sym (c .before .before .before .before .before .is-open .ensures) ∙ c .before .before .before .before .if2 .left) (c .before .before .before .before .before .before .before .if1 .taken) (c .before .before .before .if4 .left)) (c .write .ensures _)
 
 element-write-regs-3 : tie.Need-element-write-regs-3
 element-write-regs-3 c = search needs
 
-returns-6 : tie.Need-returns-6
+returns-5 : tie.Need-returns-5
 unfolding portOf
-returns-6 c = let a = c .before .before .before .before .args in stores-lcr (a .regs .now) (a .pos .now) (a .ring .now) (c .before .before .regs-len .ensures) _ _ (c .match .keys1)
+returns-5 c = let a = c .before .before .before .before .args in stores-lcr (a .regs .now) (a .pos .now) (a .ring .now) (c .before .before .regs-len .ensures) _ _ (c .match .keys1)
 
 element-write-regs-4 : tie.Need-element-write-regs-4
 element-write-regs-4 c = search needs
 
-returns-7 : tie.Need-returns-7
+returns-6 : tie.Need-returns-6
 unfolding portOf
-returns-7 c = let a = c .before .before .before .before .args in stores-mcr (a .regs .now) (a .pos .now) (a .ring .now) (c .before .before .regs-len .ensures) _ _ (c .match .keys2)
+returns-6 c = let a = c .before .before .before .before .args in stores-mcr (a .regs .now) (a .pos .now) (a .ring .now) (c .before .before .regs-len .ensures) _ _ (c .match .keys2)
 
 element-write-regs-5 : tie.Need-element-write-regs-5
 element-write-regs-5 c = search needs
 
+returns-7 : tie.Need-returns-7
+unfolding portOf
+returns-7 c = let a = c .before .before .before .before .args in stores-scr (a .regs .now) (a .pos .now) (a .ring .now) (c .before .before .regs-len .ensures) _ _ (c .match .keys3)
+
 returns-8 : tie.Need-returns-8
 unfolding portOf
-returns-8 c = let a = c .before .before .before .before .args in stores-scr (a .regs .now) (a .pos .now) (a .ring .now) (c .before .before .regs-len .ensures) _ _ (c .match .keys3)
-
-returns-9 : tie.Need-returns-9
-unfolding portOf
-returns-9 c = let a = c .before .before .before .before .args in let m = c .match .rest in stores-nothing (a .regs .now) (a .pos .now) (a .ring .now) (a .offset) _ (c .before .if1 .left) (m .0 .0 .1) (m .0 .1) (m .1)
+returns-8 c = let a = c .before .before .before .before .args in let m = c .match .rest in stores-nothing (a .regs .now) (a .pos .now) (a .ring .now) (a .offset) _ (c .before .if1 .left) (m .0 .0 .1) (m .0 .1) (m .1)
 
 pub write-spec : {M : Type 1} → statement M
 write-spec =
@@ -94,18 +81,14 @@ write-spec =
     returns
     element-write-regs-2
     returns-2
-    element-copy-out-is-loop
-    is-loop-requires
-    write-loop-requires
+    write-thr-requires
     returns-3
-    write-line-requires
+    write-requires
     returns-4
-    write-ier-requires
-    returns-5
     element-write-regs-3
-    returns-6
+    returns-5
     element-write-regs-4
-    returns-7
+    returns-6
     element-write-regs-5
-    returns-8
-    returns-9)
+    returns-7
+    returns-8)

@@ -1,7 +1,7 @@
 -- The answer is a law of `Saying`.
 -- Assumes nothing.
 use Rattle.serial_lines.proofs.Saying.{port-said}
-use Rattle.serial.specs.Ring.{queue}
+use Rattle.ring.specs.Ring.{queue}
 use Rattle.serial.specs.Layout.{places}
 use Rattle.words.proofs.Putting.{both}
 use Rattle.serial.specs.Layout.{portOf}

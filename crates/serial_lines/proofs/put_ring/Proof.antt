@@ -2,7 +2,7 @@
 -- Assumes nothing.
 use Rattle.serial_lines.proofs.Saying.{none-yet, one-more, all-there}
 use Rattle.words.specs.Put.{Puts}
-use Rattle.serial.specs.Ring.{queue}
+use Rattle.ring.specs.Ring.{queue}
 use Rattle.serial.specs.Layout.{places}
 use Rattle.serial_lines.specs.Answers.{bytesSay}
 use Prim.Native.Nat.{_+_, _-_, _≤_, _<_}

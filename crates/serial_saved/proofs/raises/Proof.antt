@@ -1,35 +1,27 @@
 -- The answer is a law of `Raising`.
 -- Assumes nothing.
-use Rattle.serial_saved.proofs.Raising.{both}
+use Rattle.serial_saved.proofs.Raising.{as-raised}
 use borrow.Author.Needs.{needs}
 use Rattle.serial_saved.proofs.raises.Statement.{statement}
 use Rattle.serial_saved.proofs.raises.Tie as tie
 
-element-copy-out-ier : tie.Need-element-copy-out-ier
-element-copy-out-ier c = search needs
+element-copy-out-raised-again : tie.Need-element-copy-out-raised-again
+element-copy-out-raised-again c = search needs
 
-element-copy-out-iir : tie.Need-element-copy-out-iir
-element-copy-out-iir c = search needs
+element-copy-out-raised-again-2 : tie.Need-element-copy-out-raised-again-2
+element-copy-out-raised-again-2 c = search needs
 
-raise-requires : tie.Need-raise-requires
-raise-requires c κs = search needs
-
-raise-requires-2 : tie.Need-raise-requires-2
-raise-requires-2 c κs = search needs
-
-add-result : tie.Need-add-result
-add-result c = search needs
+raised-again-requires : tie.Need-raised-again-requires
+raised-again-requires c κs = search needs
 
 returns : tie.Need-returns
-returns c = both (c .before .before .before .before .args .saved .now) _ _ (c .before .raise .ensures) (c .raise2 .ensures)
+returns c = let a = c .before .before .before .args in as-raised (a .saved .now) (a .waits) _ (c .raised-again .ensures .0)
 
 pub raises-spec : {M : Type 1} → statement M
 raises-spec =
     tie.close
     (tie.spec
-    element-copy-out-ier
-    element-copy-out-iir
-    raise-requires
-    raise-requires-2
-    add-result
+    element-copy-out-raised-again
+    element-copy-out-raised-again-2
+    raised-again-requires
     returns)

@@ -1,5 +1,6 @@
 -- Assumes nothing.
 use mathlib.Core.Path.{_∙_}
+use lib.Dec.{ltb}
 use Rattle.serial.specs.Layout.{portOf}
 use Rattle.serial.proofs.Reading.{reads-none, reads-first}
 use borrow.Author.Needs.{needs}
@@ -12,29 +13,32 @@ regs-len-requires c κs = search needs
 count-requires : tie.Need-count-requires
 count-requires c κs = search needs
 
-element-copy-out-unmark-received-data : tie.Need-element-copy-out-unmark-received-data
-element-copy-out-unmark-received-data c = search needs
+element-copy-out-after-data-read : tie.Need-element-copy-out-after-data-read
+element-copy-out-after-data-read c = search needs
 
-unmark-received-data-requires : tie.Need-unmark-received-data-requires
-unmark-received-data-requires c κs = search needs
+element-copy-out-after-data-read-2 : tie.Need-element-copy-out-after-data-read-2
+element-copy-out-after-data-read-2 c = search needs
+
+after-data-read-requires : tie.Need-after-data-read-requires
+after-data-read-requires c κs = search needs
 
 element-write-regs : tie.Need-element-write-regs
 element-write-regs c = search needs
 
-after-read-requires : tie.Need-after-read-requires
-after-read-requires c κs = search needs
+lsr-after-read-requires : tie.Need-lsr-after-read-requires
+lsr-after-read-requires c κs = search needs
 
 returns : tie.Need-returns
 unfolding portOf
 returns c =
-    let a = c .before .before .before .before .before .before .before .before .before .args in
-    reads-none (a .regs .now) (a .pos .now) (a .ring .now) (c .before .before .before .before .before .before .before .regs-len .ensures) _ (c .before .before .before .unmark-received-data .ensures) _ (c .before .before .before .before .before .count .ensures) (c .before .before .if1 .taken) (c .after-read .ensures)
+    let a = c .before .before .before .before .before .before .before .before .before .before .args in
+    reads-none (a .regs .now) (a .pos .now) (a .ring .now) (c .before .before .before .before .before .before .before .before .regs-len .ensures) _ (ltb 1 (c .before .before .before .before .before .before .count .result)) (c .before .before .before .after-data-read .ensures) _ (c .before .before .before .before .before .before .count .ensures) (c .before .before .if1 .taken) (c .lsr-after-read .ensures)
 
-sub-after-read : tie.Need-sub-after-read
-sub-after-read c = search needs
+sub-lsr-after-read : tie.Need-sub-lsr-after-read
+sub-lsr-after-read c = search needs
 
-after-read-requires-2 : tie.Need-after-read-requires-2
-after-read-requires-2 c κs = search needs
+lsr-after-read-requires-2 : tie.Need-lsr-after-read-requires-2
+lsr-after-read-requires-2 c κs = search needs
 
 take-requires : tie.Need-take-requires
 take-requires c κs = search needs
@@ -45,8 +49,8 @@ wide-requires c κs = search needs
 returns-2 : tie.Need-returns-2
 unfolding portOf
 returns-2 c =
-    let a = c .before .before .before .before .before .before .before .before .before .before .before .before .args in
-    reads-first (a .regs .now) (a .pos .now) (a .ring .now) (c .before .before .before .before .before .before .before .before .before .before .regs-len .ensures) _ (c .before .before .before .before .before .before .unmark-received-data .ensures) _ (c .before .before .before .before .before .before .before .before .count .ensures) _ (rw (c .wide .ensures) (c .before .take .ensures)) (c .before .before .before .before .before .if1 .left) (c .before .before .before .after-read2 .ensures)
+    let a = c .before .before .before .before .before .before .before .before .before .before .before .before .before .args in
+    reads-first (a .regs .now) (a .pos .now) (a .ring .now) (c .before .before .before .before .before .before .before .before .before .before .before .regs-len .ensures) _ (ltb 1 (c .before .before .before .before .before .before .before .before .before .count .result)) (c .before .before .before .before .before .before .after-data-read .ensures) _ (c .before .before .before .before .before .before .before .before .before .count .ensures) _ (rw (c .wide .ensures) (c .before .take .ensures)) (c .before .before .before .before .before .if1 .left) (c .before .before .before .lsr-after-read2 .ensures)
 
 pub read-any-rbr-spec : {M : Type 1} → statement M
 read-any-rbr-spec =
@@ -54,13 +58,14 @@ read-any-rbr-spec =
     (tie.spec
     regs-len-requires
     count-requires
-    element-copy-out-unmark-received-data
-    unmark-received-data-requires
+    element-copy-out-after-data-read
+    element-copy-out-after-data-read-2
+    after-data-read-requires
     element-write-regs
-    after-read-requires
+    lsr-after-read-requires
     returns
-    sub-after-read
-    after-read-requires-2
+    sub-lsr-after-read
+    lsr-after-read-requires-2
     take-requires
     wide-requires
     returns-2)

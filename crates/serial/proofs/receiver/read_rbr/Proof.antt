@@ -2,9 +2,10 @@
 -- Assumes nothing.
 use mathlib.Core.Path.{_≡_, _∙_}
 use native.Mathlib.Omega.{arith}
-use Prim.Native.Nat.{_-_, _≤_}
+use Prim.Native.Nat.{ℕ, _-_, _≤_}
 use lib.ListN.{getD}
-use Rattle.serial.specs.Interrupts.{receivedData, unmark}
+use mathlib.Core.Bool.{Bool}
+use Rattle.interrupts.specs.Interrupts.{afterDataRead}
 use Rattle.serial.specs.Layout.{size, portOf}
 use Rattle.serial.proofs.Leaves.{some-left}
 use Rattle.serial.proofs.Reading.{reads-unmarked}
@@ -15,11 +16,11 @@ use Rattle.serial.proofs.receiver.read_rbr.Tie as tie
 element-copy-out-n : tie.Need-element-copy-out-n
 element-copy-out-n c = search needs
 
-element-copy-out-is-unmarked : tie.Need-element-copy-out-is-unmarked
-element-copy-out-is-unmarked c = search needs
+element-copy-out-stays-at-data-read : tie.Need-element-copy-out-stays-at-data-read
+element-copy-out-stays-at-data-read c = search needs
 
-is-unmarked-requires : tie.Need-is-unmarked-requires
-is-unmarked-requires c κs = search needs
+stays-at-data-read-requires : tie.Need-stays-at-data-read-requires
+stays-at-data-read-requires c κs = search needs
 
 regs-len-requires : tie.Need-regs-len-requires
 regs-len-requires c κs = search needs
@@ -28,8 +29,8 @@ several-requires : tie.Need-several-requires
 several-requires c κs = search needs
 
 -- what the two tests tell
-unmarked : (c : tie.Then1) → let iir = getD (c .before .before .before .before .args .regs .now) 2 0 in unmark iir receivedData ≡ iir
-unmarked c = c .before .is-unmarked .ensures (c .if1 .taken)
+unmarked : (c : tie.Then1) → let iir = getD (c .before .before .before .before .args .regs .now) 2 0 in (ier : ℕ) (more : Bool) → afterDataRead ier iir more ≡ iir
+unmarked c = c .before .stays-at-data-read .ensures (c .if1 .taken)
 
 several : (c : tie.Then2) → let n = getD (c .before .before .before .before .before .before .before .before .args .pos .now) 1 0 in (2 ≤ n) × (n ≤ size)
 several c = c .before .several .ensures (c .if2 .taken)
@@ -48,8 +49,8 @@ returns c =
     reads-unmarked (a .regs .now) (a .pos .now) (a .ring .now) (c .before .before .before .before .before .regs-len .ensures) _ _ (omega (arith, s .1)) (unmarked (c .before .before .before .before .before .before .before)) (rw (c .wide .ensures) (c .before .take .ensures)) (λ z. omega (arith, s .0))
     (some-left (a .regs .now) (getD (a .pos .now) 1 0 - 1) (λ z. omega (arith, s .0)))
 
-after-read-requires : tie.Need-after-read-requires
-after-read-requires c κs = search needs
+lsr-after-read-requires : tie.Need-lsr-after-read-requires
+lsr-after-read-requires c κs = search needs
 
 take-requires-2 : tie.Need-take-requires-2
 take-requires-2 c κs = search needs
@@ -64,7 +65,7 @@ returns-2 c =
     let n = getD (a .pos .now) 1 0 in
     let one : n ≡ 1 = c .before .before .before .before .before .if3 .taken in
     reads-unmarked (a .regs .now) (a .pos .now) (a .ring .now) (c .before .before .before .before .before .before .before .before .regs-len .ensures) n _ (omega (arith, one)) (unmarked (c .before .before .before .before .before .before .before .before .before .before)) (rw (c .wide2 .ensures) (c .before .take2 .ensures)) (λ z. omega (arith, one))
-    (rw one (c .before .before .before .after-read .ensures))
+    (rw one (c .before .before .before .lsr-after-read .ensures))
 
 read-any-rbr-requires : tie.Need-read-any-rbr-requires
 read-any-rbr-requires c κs = search needs
@@ -83,14 +84,14 @@ read-rbr-spec =
     tie.close
     (tie.spec
     element-copy-out-n
-    element-copy-out-is-unmarked
-    is-unmarked-requires
+    element-copy-out-stays-at-data-read
+    stays-at-data-read-requires
     regs-len-requires
     several-requires
     take-requires
     wide-requires
     returns
-    after-read-requires
+    lsr-after-read-requires
     take-requires-2
     wide-requires-2
     returns-2

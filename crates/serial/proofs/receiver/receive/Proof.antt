@@ -1,4 +1,4 @@
--- The answer is put together from what the two rooms promise.
+-- The answer is put together from what the rooms promise.
 -- Assumes nothing.
 use mathlib.Core.Path.{refl}
 use borrow.Author.Needs.{needs}
@@ -14,11 +14,23 @@ pos-len-requires c κs = search needs
 element-copy-out-lsr : tie.Need-element-copy-out-lsr
 element-copy-out-lsr c = search needs
 
+element-copy-out-iir : tie.Need-element-copy-out-iir
+element-copy-out-iir c = search needs
+
+element-copy-out-data-came : tie.Need-element-copy-out-data-came
+element-copy-out-data-came c = search needs
+
+element-copy-out-data-came-2 : tie.Need-element-copy-out-data-came-2
+element-copy-out-data-came-2 c = search needs
+
+data-came-requires : tie.Need-data-came-requires
+data-came-requires c κs = search needs
+
 element-write-pos : tie.Need-element-write-pos
 element-write-pos c = search needs
 
-announce-received-data-requires : tie.Need-announce-received-data-requires
-announce-received-data-requires c κs = search needs
+store-requires : tie.Need-store-requires
+store-requires c κs = search needs
 
 ready-requires : tie.Need-ready-requires
 ready-requires c κs = search needs
@@ -27,7 +39,9 @@ element-write-regs : tie.Need-element-write-regs
 element-write-regs c = search needs
 
 returns : tie.Need-returns
-returns c = let a = c .before .announce-received-data .ensures in record { marked = rw (a .marked, c .ready .ensures); counted = refl; raised = a .raised; once = a .once }
+returns c =
+    let told = c .before .before .before .data-came .ensures in
+    record { marked = rw (c .before .store .ensures, told .stored, c .ready .ensures); counted = refl; raised = told .raised; once = told .few }
 
 pub receive-spec : {M : Type 1} → statement M
 receive-spec =
@@ -36,8 +50,12 @@ receive-spec =
     regs-len-requires
     pos-len-requires
     element-copy-out-lsr
+    element-copy-out-iir
+    element-copy-out-data-came
+    element-copy-out-data-came-2
+    data-came-requires
     element-write-pos
-    announce-received-data-requires
+    store-requires
     ready-requires
     element-write-regs
     returns)

@@ -1,4 +1,4 @@
--- Each answer is a law of `Sending`.
+-- The answer is a law of `Sending`.
 -- Assumes nothing.
 use native.Mathlib.Omega.{arith}
 use Rattle.serial.proofs.Sending.{line-sends}
@@ -9,14 +9,23 @@ use Rattle.serial.proofs.transmitter.write_line.Tie as tie
 regs-len-requires : tie.Need-regs-len-requires
 regs-len-requires c κs = search needs
 
+element-copy-out-iir : tie.Need-element-copy-out-iir
+element-copy-out-iir c = search needs
+
+element-copy-out-byte-sent : tie.Need-element-copy-out-byte-sent
+element-copy-out-byte-sent c = search needs
+
+byte-sent-requires : tie.Need-byte-sent-requires
+byte-sent-requires c κs = search needs
+
+store-requires : tie.Need-store-requires
+store-requires c κs = search needs
+
 wide-requires : tie.Need-wide-requires
 wide-requires c κs = search needs
 
 add-result : tie.Need-add-result
 add-result c = search needs
-
-announce-transmitter-empty-requires : tie.Need-announce-transmitter-empty-requires
-announce-transmitter-empty-requires c κs = search needs
 
 mul-result : tie.Need-mul-result
 mul-result c = search needs
@@ -25,16 +34,23 @@ add-result-2 : tie.Need-add-result-2
 add-result-2 c = search needs
 
 returns : tie.Need-returns
-returns c = λ pos ring. line-sends (c .before .before .before .before .before .args .regs .now) pos ring (c .before .before .before .regs-len .ensures) _ (c .announce-transmitter-empty .ensures) (omega (arith, c .before .before .wide .ensures))
+returns c =
+    let a = c .before .before .before .before .before .before .before .before .before .args in
+    λ pos ring.
+    rw (c .before .before .store .ensures)
+    (line-sends (a .regs .now) pos ring (c .before .before .before .before .before .before .before .regs-len .ensures) (a .value) (a .waits) (c .before .before .before .before .byte-sent .ensures) (omega (arith, c .before .wide .ensures)))
 
 pub write-line-spec : {M : Type 1} → statement M
 write-line-spec =
     tie.close
     (tie.spec
     regs-len-requires
+    element-copy-out-iir
+    element-copy-out-byte-sent
+    byte-sent-requires
+    store-requires
     wide-requires
     add-result
-    announce-transmitter-empty-requires
     mul-result
     add-result-2
     returns)

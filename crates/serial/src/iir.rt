@@ -1,0 +1,36 @@
+// IIR.
+use crate::memory;
+use crate::memory::COUNT;
+use crate::memory::IER;
+use crate::memory::IIR;
+use crate::memory::Pos;
+use crate::memory::Regs;
+ghost use mathlib.Core.Path.{_≡_};
+ghost use mathlib.Core.List.{List};
+ghost use Prim.Native.Nat.{ℕ};
+ghost use lib.ListN.{getD, set};
+ghost use Rattle.serial.specs.Port.{readIir};
+ghost use Rattle.serial.specs.Calls.{Reads};
+
+// What is pending.
+pub fn read(regs: &mut Regs, pos: &Pos) -> u32
+    ensures { λ r. ⌜ ((ring : List ℕ) → Reads readIir (now (regs .entry)) (now (pos .entry)) ring (now (regs .exit)) (now (pos .entry)) r) ⌝ }
+{
+    memory::regs_len(regs);
+    let ier = regs[IER];
+    let iir = regs[IIR];
+    let waits = pos[COUNT] != 0;
+    regs[IIR] = interrupts::after_identification(ier, iir, waits);
+    memory::wide(interrupts::identification(ier, iir, waits))
+}
+
+// IIR becomes `new` where it is not `iir` already, which lies there.
+pub fn store(regs: &mut Regs, iir: u8, new: u8)
+    requires { ⌜ iir ≡ getD (now regs) 2 0 ⌝ }
+    ensures { λ r. ⌜ now (regs .exit) ≡ set (now (regs .entry)) 2 new ⌝ }
+{
+    if new != iir {
+        memory::regs_len(regs);
+        regs[IIR] = new;
+    }
+}
