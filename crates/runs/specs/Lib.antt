@@ -6,4 +6,3 @@ pub mod Status
 pub mod Told
 pub mod Reachable
 pub mod Storage
-pub mod Play
