@@ -7,7 +7,7 @@ use native.Mathlib.Omega.{arith}
 use lib.ListN.{length, getD, take}
 use Rattle.serial.specs.Port.{Port}
 use Rattle.runs.specs.Run.{Op, step}
-use Rattle.runs.specs.Play.{word}
+use Rattle.play.specs.Play.{word}
 use Rattle.serial_saved.specs.Saved.{Restore, restoreOf}
 use Rattle.serial_saved.proofs.Saving.{restore-word}
 use Rattle.histories.specs.History.{Deed, does, save, restore, bring, Standing, begins, backTo, Host, starts, next, after}

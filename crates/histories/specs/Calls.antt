@@ -7,7 +7,7 @@ use lib.ListN.{length, getD, take}
 use Rattle.serial.specs.Port.{Port}
 use Rattle.serial.specs.Layout.{portOf}
 use Rattle.runs.specs.Run.{Op, step}
-use Rattle.runs.specs.Play.{word, Does}
+use Rattle.play.specs.Play.{word, Does}
 use Rattle.serial_saved.specs.Saved.{savedOf, Restore, restoreOf}
 use Rattle.serial_saved.specs.Calls.{Saves, Restores}
 use Rattle.histories.specs.History.{Deed, does, save, restore, bring, Host, next}

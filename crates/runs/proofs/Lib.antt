@@ -9,6 +9,3 @@ pub mod Holes
 pub mod Reachable
 pub mod Exact
 pub mod Isolation
-pub mod Decoding
-pub mod Playing
-pub mod Words

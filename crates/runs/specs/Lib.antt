@@ -6,4 +6,3 @@ pub mod Status
 pub mod Told
 pub mod Reached
 pub mod Storage
-pub mod Play

@@ -4,7 +4,7 @@ use serial::memory::Regs;
 use serial::memory::Ring;
 ghost use Rattle.serial.specs.Port.{readOf, writeOf, inputOf};
 ghost use Rattle.serial.specs.Calls.{MakesFresh, Reads, Writes, TakesInput, HasRoom};
-ghost use Rattle.runs.specs.Play.{Plays};
+ghost use Rattle.play.specs.Play.{Plays};
 ghost use Rattle.serial_saved.specs.Calls.{Saves, Restores};
 ghost use Rattle.serial_form.specs.Form.{readForm};
 ghost use Rattle.serial_form.specs.Calls.{Encodes, Decodes};
@@ -71,7 +71,7 @@ pub extern "C" fn serialpost_raw_serial_play(
 ) -> bool
     ensures { λ r. ⌜ Plays (now (regs .entry)) (now (pos .entry)) (now (ring .entry)) (now (ops .entry)) (now (inputs .entry)) (now (answers .entry)) (now (regs .exit)) (now (pos .exit)) (now (ring .exit)) (now (answers .exit)) r ⌝ }
 {
-    runs::play(regs, pos, ring, ops, inputs, answers)
+    play::play(regs, pos, ring, ops, inputs, answers)
 }
 
 #[no_mangle]

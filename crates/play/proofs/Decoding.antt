@@ -11,8 +11,8 @@ use lib.Seq.{drop-cons, drop-drop, take-append-seam, drop-append-seam}
 use lib.Dec.{eqb, leb, lit≤}
 use borrow.Author.Tests.{le-leb, lt-leb, eq-eqb, ne-eqb}
 use Rattle.common.specs.Lists.{some}
 use Rattle.runs.specs.Run.{Op, read, write, input, room}
-use Rattle.runs.specs.Play.{inputBytes, opOf, Decoded, malformed, asks, before, decode, encodeOp, encode, offered, allOffered, isRun}
+use Rattle.play.specs.Play.{inputBytes, opOf, Decoded, malformed, asks, before, decode, encodeOp, encode, offered, allOffered, isRun}
 
 -- ---- One operation
 

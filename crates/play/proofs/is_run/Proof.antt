@@ -4,9 +4,9 @@ use Prim.Native.Nat.{_+_, _-_, _≤_}
 use lib.ListN.{length}
 use native.Mathlib.Omega.{arith}
 use borrow.Author.Needs.{needs}
-use Rattle.runs.proofs.Decoding.{Scanned, scanned-none, uneven, whole, scanned-kind, scanned-short, scanned-more, scanned-all}
-use Rattle.runs.proofs.is_run.Statement.{statement}
-use Rattle.runs.proofs.is_run.Tie as tie
+use Rattle.play.proofs.Decoding.{Scanned, scanned-none, uneven, whole, scanned-kind, scanned-short, scanned-more, scanned-all}
+use Rattle.play.proofs.is_run.Statement.{statement}
+use Rattle.play.proofs.is_run.Tie as tie
 
 abbrev Inv-loop : tie.InvT-loop
 Inv-loop ops inputs end at₀ from₀ at from = Scanned ops inputs at from

@@ -8,10 +8,10 @@ use lib.ListN.{length}
 use Rattle.serial.specs.Layout.{portOf}
 use Rattle.serial.specs.Calls.{SparesKept}
 use borrow.Author.Tests.{not-true, not-false}
-use Rattle.runs.proofs.Decoding.{takesAt}
-use Rattle.runs.proofs.Playing.{Playing, kept-on, playing-none, next-bytes, playing-next, refuses-no-run, refuses-too-many, plays-all}
-use Rattle.runs.proofs.play.Statement.{statement}
-use Rattle.runs.proofs.play.Tie as tie
+use Rattle.play.proofs.Decoding.{takesAt}
+use Rattle.play.proofs.Playing.{Playing, kept-on, playing-none, next-bytes, playing-next, refuses-no-run, refuses-too-many, plays-all}
+use Rattle.play.proofs.play.Statement.{statement}
+use Rattle.play.proofs.play.Tie as tie
 
 abbrev Inv-loop : tie.InvT-loop
 Inv-loop regs₀ pos₀ ring₀ ops inputs answers₀ count from₀ i₀ regs pos ring answers from i =

@@ -2,8 +2,8 @@
 -- Assumes nothing.
 use borrow.Author.Needs.{needs}
 use borrow.Author.Tests.{eq-eqb, ne-eqb}
-use Rattle.runs.proofs.input_bytes.Statement.{statement}
-use Rattle.runs.proofs.input_bytes.Tie as tie
+use Rattle.play.proofs.input_bytes.Statement.{statement}
+use Rattle.play.proofs.input_bytes.Tie as tie
 
 wide-requires : tie.Need-wide-requires
 wide-requires c κs = search needs

@@ -8,9 +8,9 @@ use native.Mathlib.Omega.{arith}
 use borrow.Author.Tests.{eq-eqb, ne-eqb}
 use Rattle.serial.specs.Port.{Port, Input, readOf, writeOf, inputOf, takesNone, roomOf}
 use Rattle.serial.specs.Calls.{readWord, writeWord, inputWord}
 use Rattle.runs.specs.Run.{didInput, step}
-use Rattle.runs.specs.Play.{opOf, word, Does}
+use Rattle.play.specs.Play.{opOf, word, Does}
 use Rattle.runs.proofs.Effects.{input-cases}
 
 input-word : (p : Port) (bytes : List ℕ) → inputWord (inputOf p bytes) ≡ word (didInput (inputOf p bytes) .answer)
 input-word p bytes =

@@ -13,9 +13,9 @@ use Rattle.common.specs.Lists.{some}
 use Rattle.serial.specs.Port.{Port}
 use Rattle.serial.specs.Layout.{portOf}
 use Rattle.serial.specs.Calls.{SparesKept}
 use Rattle.runs.specs.Run.{Op, step, run}
-use Rattle.runs.specs.Play.{opOf, Decoded, malformed, asks, before, decode, isRun, word, words, Does, Played, Refused, Plays}
-use Rattle.runs.proofs.Decoding.{takesAt, opAt, decode-length, bad-kind-at, short-at, next-at, before-is-run}
+use Rattle.play.specs.Play.{opOf, Decoded, malformed, asks, before, decode, isRun, word, words, Does, Played, Refused, Plays}
+use Rattle.play.proofs.Decoding.{takesAt, opAt, decode-length, bad-kind-at, short-at, next-at, before-is-run}
 
 -- the port after what was decoded, and its answers
 pub portAfter : Port → Decoded → Port

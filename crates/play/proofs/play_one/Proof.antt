@@ -2,9 +2,9 @@
 -- Assumes nothing.
 use borrow.Author.Needs.{needs}
 use mathlib.Core.Path.{refl}
-use Rattle.runs.proofs.Words.{does-read, does-write, does-input, does-room}
-use Rattle.runs.proofs.play_one.Statement.{statement}
-use Rattle.runs.proofs.play_one.Tie as tie
+use Rattle.play.proofs.Words.{does-read, does-write, does-input, does-room}
+use Rattle.play.proofs.play_one.Statement.{statement}
+use Rattle.play.proofs.play_one.Tie as tie
 
 read-requires : tie.Need-read-requires
 read-requires c κs = search needs
