@@ -108,7 +108,11 @@ pub extern "C" fn serialpost_raw_serial_encode(saved: &Regs, waiting: &[u8], for
 }
 
 #[no_mangle]
-pub extern "C" fn serialpost_raw_serial_decode(form: &[u8], saved: &mut Regs, waiting: &mut Ring) -> u32
+pub extern "C" fn serialpost_raw_serial_decode(
+    form: &[u8],
+    saved: &mut Regs,
+    waiting: &mut Ring,
+) -> u32
     ensures { λ r. ⌜ Decodes (readForm (now (form .entry))) (now (saved .entry)) (now (waiting .entry)) (now (saved .exit)) (now (waiting .exit)) r ⌝ }
 {
     serial_form::decode(form, saved, waiting)
