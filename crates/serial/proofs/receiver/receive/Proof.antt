@@ -14,14 +14,14 @@ pos-len-requires c κs = search needs
 element-copy-out-lsr : tie.Need-element-copy-out-lsr
 element-copy-out-lsr c = search needs
 
-element-copy-out-iir : tie.Need-element-copy-out-iir
-element-copy-out-iir c = search needs
-
 element-copy-out-data-came : tie.Need-element-copy-out-data-came
 element-copy-out-data-came c = search needs
 
 element-copy-out-data-came-2 : tie.Need-element-copy-out-data-came-2
 element-copy-out-data-came-2 c = search needs
+
+element-copy-out-data-came-3 : tie.Need-element-copy-out-data-came-3
+element-copy-out-data-came-3 c = search needs
 
 data-came-requires : tie.Need-data-came-requires
 data-came-requires c κs = search needs
@@ -50,9 +50,9 @@ receive-spec =
     regs-len-requires
     pos-len-requires
     element-copy-out-lsr
-    element-copy-out-iir
     element-copy-out-data-came
     element-copy-out-data-came-2
+    element-copy-out-data-came-3
     data-came-requires
     element-write-pos
     store-requires
