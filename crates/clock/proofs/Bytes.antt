@@ -1,5 +1,4 @@
 -- Four bytes in memory: what four stores leave, and what four loads find.
--- Assumes nothing.
 use mathlib.Core.Path.{_≡_, refl}
 use mathlib.Core.List.{List, [], _∷_}
 use Prim.Native.Nat.{ℕ, _/_, _%_}

@@ -1,5 +1,4 @@
 -- Which register an offset names, and what the two accesses are there.
--- Assumes nothing.
 use mathlib.Core.Path.{_≡_, refl}
 use mathlib.Core.Bool.{Bool, true, false, cond, _&&_}
 use Prim.Native.Nat.{ℕ, _-_, _/_, _%_, _^_, _≤_}

@@ -1,5 +1,4 @@
 -- Theorems over runs of the clock: any accesses, at any times, from any state unless a statement says otherwise.
--- Assumes nothing.
 use mathlib.Core.Path.{_≡_, refl, sym, ap, _∙_}
 use mathlib.Core.List.{List, [], _∷_}
 use Prim.Native.Nat.{ℕ, suc, _+_, _-_, _/_, _%_, _^_, _≤_, _<_}

@@ -1,5 +1,4 @@
 -- What each answer of the entry points is in the definition: one lemma for each kind of return.
--- Assumes nothing.
 use mathlib.Core.Path.{_≡_, refl, sym, ap, _∙_}
 use mathlib.Core.List.{List}
 use Prim.Native.Nat.{ℕ, _%_, _^_}

@@ -1,5 +1,4 @@
 -- A store of one word is the named register's: eight words are taken apart, and each law computes.
--- Assumes nothing.
 use mathlib.Core.Path.{_≡_, refl}
 use mathlib.Core.List.{List, [], _∷_}
 use Prim.Native.Nat.{ℕ, _/_, _%_, _^_}

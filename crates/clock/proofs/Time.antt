@@ -1,5 +1,4 @@
 -- The clock's time is a sum of integers, with their signs; the code adds patterns of 64 bits. They agree for every pattern.
--- Assumes nothing.
 use mathlib.Core.Path.{_≡_, refl, sym, ap, _∙_}
 use Prim.Native.Nat.{ℕ, zero, suc, _+_, _-_, _/_, _%_, _^_, _≤_, _<_}
 use native.Mathlib.Decide.{decLt}

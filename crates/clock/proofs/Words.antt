@@ -1,5 +1,4 @@
 -- Runs of the code: what the contracts promise of calls one after the other, on the same eight words.
--- Assumes nothing.
 use mathlib.Core.Path.{_≡_, refl, sym, ap, _∙_}
 use mathlib.Core.List.{List}
 use Prim.Native.Nat.{ℕ, zero, suc, _-_, _^_, _<_}

@@ -1,5 +1,4 @@
 -- Numbers among bytes: what four loads find, and what the stores leave.
--- Assumes nothing.
 use mathlib.Core.Path.{_≡_, refl}
 use mathlib.Core.List.{List, [], _∷_}
 use Prim.Native.Nat.{ℕ, suc, _+_, _/_, _%_, _≤_}

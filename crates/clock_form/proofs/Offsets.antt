@@ -1,5 +1,4 @@
 -- An offset has 33 signed bits exactly where its high half repeats the sign.
--- Assumes nothing.
 use mathlib.Core.Path.{_≡_}
 use mathlib.Core.Bool.{true, false}
 use Prim.Native.Nat.{ℕ, suc, _-_, _^_, _≤_, _<_}

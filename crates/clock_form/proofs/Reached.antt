@@ -1,5 +1,4 @@
 -- Every reachable clock has a form: the writer refuses none of them.
--- Assumes nothing.
 use mathlib.Core.Path.{_≡_, _∙_}
 use mathlib.Core.Bool.{true}
 use mathlib.Core.List.{List}

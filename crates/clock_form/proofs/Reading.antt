@@ -1,5 +1,4 @@
 -- What reading comes to, by conditions alone and exactly.
--- Assumes nothing.
 use mathlib.Core.Path.{_≡_, refl, _∙_}
 use mathlib.Core.Bool.{Bool, true, false}
 use mathlib.Core.List.{List}

@@ -1,5 +1,4 @@
 -- Writing and reading are inverse. That nothing past the end is read needs no theorem: no index is out of range in code that is proved.
--- Assumes nothing.
 use mathlib.Core.Path.{_≡_, refl, sym, ap, _∙_}
 use mathlib.Core.Bool.{Bool, true, false, cond, _&&_, false≢true}
 use mathlib.Core.List.{List, [], _∷_, _++_}

@@ -1,5 +1,4 @@
 -- Every clock that is `Reachable` is reached by a run from a fresh one: the definition says neither too little nor too much.
--- Assumes nothing.
 use mathlib.Core.Path.{_≡_, refl, sym, ap, subst, _∙_}
 use mathlib.Core.List.{List, [], _∷_}
 use mathlib.Core.Logic.{_↔_}

@@ -1,5 +1,4 @@
 -- Every clock that a run from a fresh one reaches is `Reachable`.
--- Assumes nothing.
 use mathlib.Core.Path.{refl}
 use mathlib.Core.List.{List, [], _∷_}
 use Prim.Native.Nat.{ℕ, _-_, _%_, _^_, _<_}

@@ -1,5 +1,4 @@
 -- Saving and restoring, by what the two calls promise.
--- Assumes nothing.
 use mathlib.Core.Path.{_≡_, ap, _∙_}
 use mathlib.Core.Bool.{true}
 use mathlib.Core.List.{List}

@@ -1,5 +1,4 @@
 -- What holds of every byte, from one test that antt computes at each of the 256.
--- Assumes nothing.
 use mathlib.Core.Path.{_≡_, refl, subst, sym}
 use mathlib.Core.Bool.{Bool, true, false, Bool·beq, _&&_}
 use Prim.Native.Nat.{ℕ, zero, suc, _<_}

@@ -1,4 +1,4 @@
--- What the contracts of the reading cite. Assumes nothing.
+-- What the contracts of the reading cite.
 use Prim.Native.Nat.{ℕ}
 use Rattle.exchange.specs.declared.Came.{Came}
 use Rattle.exchange.specs.declared.Came.the-variants.{Bytes, End, Failed}

@@ -1,5 +1,4 @@
 -- Calls one after another, each as its contract promises, do in memory what the host's deeds do to the port.
--- Assumes nothing.
 use mathlib.Core.Path.{_≡_, refl, sym, ap, subst, _∙_}
 use mathlib.Core.List.{List, [], _∷_}
 use Prim.Native.Nat.{ℕ, zero, suc, _<_}

@@ -1,5 +1,4 @@
--- Over any mix of operations, saving and bringing back, a port is what the operations of its history made it.
--- Assumes nothing.
+-- Over any mix of operations, saving and restoring, a port is what the operations of its history made it.
 use mathlib.Core.Path.{_≡_, refl, sym, ap, _∙_}
 use mathlib.Core.Bool.{Bool, true, false, cond}
 use mathlib.Core.List.{List, [], _∷_, _++_}
@@ -99,7 +98,7 @@ new p = record { port = refl; answers = refl }
 pub as-if-run : (p : Port) (ds : List Deed) → Lived (after (starts p) ds .here)
 as-if-run p ds = always Lived Anything Anything (λ s o _. goes-on s o) (λ q f _. new q) p ds (anything ds) (new p)
 
--- To bring back is what the definition of bringing back says.
+-- To restore is what the definition of a restore says.
 pub brings-back : (here saved : Standing) → backTo here saved .port ≡ restoreOf (here .port) (saved .port) .port
 unfolding backTo restoreOf
 brings-back here saved = go (fits (saved .port))

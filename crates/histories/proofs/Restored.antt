@@ -1,5 +1,4 @@
 -- What a restored port does, over runs.
--- Assumes nothing.
 use Prim.Native.Nat.{ℕ, _/_, _%_}
 use mathlib.Core.Path.{_≡_, ap}
 use mathlib.Core.List.{List}

@@ -1,4 +1,4 @@
--- A port that its host writes down and brings back while it runs: which operations still count.
+-- A port that its host saves and restores while it runs: which operations still count.
 use Prim.Native.Nat.{ℕ, suc}
 use mathlib.Core.Path.{_≡_}
 use mathlib.Core.Bool.{true, cond}
@@ -8,7 +8,7 @@ use Rattle.serial.specs.Port.{Port}
 use Rattle.runs.specs.Run.{Op, Answer, step}
 use Rattle.serial_saved.specs.Saved.{fits}
 
--- What a host does: an operation of a run; it writes the port down and keeps that; it brings back one that it kept, 0 the last, 1 the one before; it
+-- What a host does: an operation of a run; it saves the port and keeps that; it restores one that it kept, 0 the last, 1 the one before; it
 -- restores one that was saved elsewhere.
 pub data Deed : Type 0 where
   does : Op → Deed

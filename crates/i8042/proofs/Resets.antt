@@ -1,5 +1,4 @@
 -- Which writes reset the machine, and for which commands the manual answers otherwise.
--- Assumes nothing.
 use mathlib.Core.Path.{_≡_, refl}
 use mathlib.Core.Bool.{Bool, true, false, _&&_, _||_, false≢true}
 use Prim.Native.Nat.{ℕ, _<_}

@@ -1,5 +1,4 @@
 -- A line is answered: the place of the next one is sound.
--- Assumes nothing.
 use Prim.Native.Nat.{ℕ, _≤_}
 use mathlib.Core.Path.{_≡_}
 use native.Mathlib.Omega.{arith}

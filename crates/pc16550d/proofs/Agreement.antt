@@ -1,5 +1,4 @@
 -- What the proofs about single calls share: the two maps of offsets are one, the chip's pin and code in the device's words, and how a call comes to agree.
--- Assumes nothing.
 use mathlib.Core.Path.{_≡_, refl, sym, ap, _∙_}
 use mathlib.Core.List.{List, [], _∷_}
 use mathlib.Core.Bool.{Bool, true, false, cond, _&&_, _||_, true≢false, false≢true, or-false}

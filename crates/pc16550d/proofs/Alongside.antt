@@ -1,5 +1,4 @@
 -- Whole runs: device and chip side by side, up to the first row; and where the fresh device comes from.
--- Assumes nothing.
 use mathlib.Core.Path.{_≡_}
 use mathlib.Core.Logic.{_⊎_}
 use mathlib.Core.List.{List}

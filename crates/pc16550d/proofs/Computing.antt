@@ -1,5 +1,4 @@
 -- One name for all that has to be unfolded to compute a run of the device and of the chip.
--- Assumes nothing.
 use Rattle.interrupts.specs.Interrupts.{ierStored, mark, unmark, isDue, announce, iirRead}
 use Rattle.line_status.specs.LineStatus.{lsrReady, lsrAfterRead}
 use Rattle.modem.specs.Modem.{isLoop, msrRead}

@@ -1,5 +1,4 @@
 -- The list of differences is exact: every call on a sound port agrees with the chip or is in a row, and no call in a row agrees.
--- Assumes nothing.
 use mathlib.Core.Path.{refl}
 use mathlib.Core.Logic.{_⊎_, inl}
 use Prim.Native.Nat.{ℕ}

@@ -1,5 +1,4 @@
 -- A fresh port is sound, and every operation keeps a port sound.
--- Assumes nothing.
 use mathlib.Core.Path.{_≡_, refl, sym, _∙_}
 use mathlib.Core.List.{List, [], _∷_, _++_, tail}
 use mathlib.Core.Bool.{Bool, true, false, cond, false≢true}

@@ -1,5 +1,4 @@
 -- The ports that runs reach are sound, so the list of differences is exact on them.
--- Assumes nothing.
 use mathlib.Core.Path.{_≡_, refl}
 use mathlib.Core.Bool.{true, false≢true}
 use mathlib.Core.Logic.{_⊎_}

@@ -1,5 +1,4 @@
 -- IIR's marks: what marking and unmarking one kind does, and what it leaves of the other; and what announcing a kind does.
--- Assumes nothing.
 use mathlib.Core.Path.{_≡_, refl}
 use mathlib.Core.Bool.{Bool, true, false, not, _&&_}
 use Prim.Native.Nat.{ℕ}

@@ -1,5 +1,4 @@
 -- Bytes that come over the line: the input agrees with the chip or is in the row of the overrun, and there it does not agree.
--- Assumes nothing.
 use mathlib.Core.Path.{_≡_, refl, sym, ap, _∙_}
 use mathlib.Core.Logic.{_⊎_, inl, inr}
 use mathlib.Core.List.{List, [], _∷_, _++_, append-assoc, append-nil}

@@ -1,6 +1,5 @@
 -- The chip by itself, from a master reset: runs with the answers that the data sheet's rules give. Inside a row nothing else holds the definition to
 -- the sheet.
--- Assumes nothing.
 use mathlib.Core.Path.{_≡_, refl}
 use mathlib.Core.Bool.{true, false}
 use mathlib.Core.List.{List, [], _∷_, _++_}

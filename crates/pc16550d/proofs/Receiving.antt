@@ -1,5 +1,4 @@
 -- Bytes come to the receiver, in the loop or over the line: what they do to the port, read as the chip's, and to the pin.
--- Assumes nothing.
 use mathlib.Core.Path.{_≡_, refl}
 use mathlib.Core.List.{List, [], _∷_, _++_}
 use mathlib.Core.Bool.{Bool, true, false, not, _&&_, _||_, true≢false, false≢true}

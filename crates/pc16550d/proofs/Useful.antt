@@ -1,5 +1,4 @@
 -- Runs that drivers make, from the fresh device: none of their calls is in a row, so all of them look alike.
--- Assumes nothing.
 use mathlib.Core.Path.{refl}
 use Rattle.sidebyside.specs.Runs.{RowFree}
 use Rattle.pc16550d.specs.Compare.{pair}

@@ -1,5 +1,4 @@
 -- Each row from the fresh device: the operations before it, the call that is in it, those behind it that show it, and the last answer of both.
--- Assumes nothing.
 use mathlib.Core.Path.{_≡_, refl}
 use mathlib.Core.List.{List, [], _∷_, _++_}
 use Prim.Native.Nat.{ℕ}

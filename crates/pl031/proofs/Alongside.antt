@@ -1,5 +1,4 @@
 -- Whole runs: device and chip side by side, up to the first row; where the fresh clock comes from; runs that meet no row.
--- Assumes nothing.
 use mathlib.Core.Path.{_≡_, refl}
 use mathlib.Core.Logic.{_⊎_}
 use mathlib.Core.List.{List}

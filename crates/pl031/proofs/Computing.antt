@@ -1,5 +1,4 @@
 -- One name for all that has to be unfolded to compute a run of the device and of the chip.
--- Assumes nothing.
 use Rattle.clock.specs.Registers.{fresh, registerAt, shown, rule, readOf, writeOf}
 use Rattle.pl031.specs.Chip.{afterReset, ticks, readRegister, writeRegister, chipDoes}
 use Rattle.pl031.specs.Chip as chip

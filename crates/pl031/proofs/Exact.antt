@@ -1,5 +1,4 @@
 -- The list of differences is exact: every call on a sound state agrees with the chip or is in a row, and no call in a row agrees.
--- Assumes nothing.
 use mathlib.Core.Path.{_≡_, refl, sym, ap, _∙_}
 use mathlib.Core.Logic.{_⊎_, inl, inr}
 use mathlib.Core.Bool.{Bool, true, false, cond, _&&_, true≢false, false≢true}

@@ -1,5 +1,4 @@
 -- The chip by itself, from reset: runs with the answers that the manual's rules give. Inside a row nothing else holds the definition to the manual.
--- Assumes nothing.
 use mathlib.Core.Path.{refl}
 use mathlib.Core.List.{List, [], _∷_}
 use Prim.Native.Nat.{ℕ}

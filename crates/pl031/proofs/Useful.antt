@@ -1,5 +1,4 @@
 -- Runs that guests make: none of their calls is in a row, so all of them look alike.
--- Assumes nothing.
 use mathlib.Core.Path.{_≡_, refl}
 use Prim.Native.Nat.{ℕ}
 use native.Mathlib.Omega.{arith}

@@ -1,5 +1,4 @@
 -- The words that the single calls answer are those of the run's answers.
--- Assumes nothing.
 use mathlib.Core.Path.{_≡_, refl, _∙_}
 use mathlib.Core.Bool.{Bool, true, false}
 use mathlib.Core.List.{List}

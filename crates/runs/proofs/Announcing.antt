@@ -1,5 +1,4 @@
 -- A write of IER tells of what is present; and how often each call raises.
--- Assumes nothing.
 use mathlib.Core.Path.{_≡_, refl, sym, ap, _∙_}
 use mathlib.Core.Bool.{Bool, true, false, cond, not, _&&_, false≢true, true≢false}
 use mathlib.Core.List.{List, [], _∷_, _++_}

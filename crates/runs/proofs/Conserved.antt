@@ -1,5 +1,4 @@
 -- Nothing is lost, nothing is made up, the order is kept; and never do more bytes wait than the port has room for.
--- Assumes nothing.
 use mathlib.Core.Path.{_≡_, refl, sym, ap, _∙_}
 use mathlib.Core.Bool.{Bool, true, false, cond}
 use mathlib.Core.List.{List, [], _∷_, _++_, tail, append-assoc, append-nil}

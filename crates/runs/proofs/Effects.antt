@@ -1,5 +1,4 @@
 -- What an operation can do to a port is one of four things. Each theorem over runs goes by these cases and by induction.
--- Assumes nothing.
 use mathlib.Core.Path.{_≡_, refl, subst}
 use mathlib.Core.Bool.{Bool, true, false, cond, _&&_}
 use mathlib.Core.List.{List, [], _∷_, _++_}

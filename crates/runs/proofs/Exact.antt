@@ -1,5 +1,4 @@
 -- Every port that is `Reachable` is reached by a run of bytes from a fresh one: the definition says neither too little nor too much.
--- Assumes nothing.
 use mathlib.Core.Path.{_≡_, refl, sym, ap, subst, _∙_}
 use mathlib.Core.Bool.{Bool, true, false, cond, false≢true}
 use mathlib.Core.List.{List, [], _∷_, _++_}

@@ -1,6 +1,5 @@
 -- What a guest is not told: runs after which a byte waits, received data is enabled and not marked; and one after which it is marked and not raised anew.
 -- Each by computation.
--- Assumes nothing.
 use mathlib.Core.Path.{_≡_, refl, sym, ap, _∙_}
 use mathlib.Core.Bool.{Bool, true, false, cond, false≢true, true≢false}
 use mathlib.Core.List.{List, [], _∷_, tail}

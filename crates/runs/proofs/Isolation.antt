@@ -1,5 +1,4 @@
 -- A port's answers depend on its state and its operations alone, and of its memory on the registers and the bytes that wait.
--- Assumes nothing.
 use mathlib.Core.Path.{_≡_, refl, ap}
 use mathlib.Core.List.{List}
 use mathlib.Core.Logic.{_≢_}
@@ -14,7 +13,7 @@ use Rattle.ring.specs.Ring.{queue}
 use Rattle.serial.specs.Layout.{size, places, startOf, countOf, portOf}
 use Rattle.serial.proofs.Bounds.{memory-fits}
 use Rattle.runs.specs.Run.{Op, run}
-use Rattle.runs.specs.Storage.{placeOf, Alike}
+use Rattle.runs.specs.Places.{placeOf, Alike}
 use Rattle.runs.proofs.Conserved.{never-more}
 
 -- Two ports that agree and get the same operations answer the same.

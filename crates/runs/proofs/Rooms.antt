@@ -1,5 +1,4 @@
 -- Laws of the port's rooms: what marking and unmarking do to each mark, what an announcement does, what the line status says.
--- Assumes nothing.
 use mathlib.Core.Path.{_≡_, refl, sym, ap, _∙_}
 use mathlib.Core.Bool.{Bool, true, false, cond, not, _&&_, Bool·beq, false≢true, true≢false}
 use mathlib.Core.List.{[]}

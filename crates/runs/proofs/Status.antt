@@ -1,5 +1,4 @@
 -- The line status register tells the truth on every port that a run from a fresh one reaches; and from any port, when it is true again.
--- Assumes nothing.
 use mathlib.Core.Path.{_≡_, refl, sym, ap, _∙_}
 use mathlib.Core.Bool.{Bool, true, false, _&&_, _||_, false≢true, true≢false}
 use mathlib.Core.List.{List, [], _∷_, _++_, tail}

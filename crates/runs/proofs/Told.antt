@@ -1,5 +1,4 @@
 -- Interrupts over runs: what is raised, how often, and that the guest is told of the bytes that come; and the runs after which it is not.
--- Assumes nothing.
 use mathlib.Core.Path.{_≡_, refl, sym, subst, _∙_}
 use mathlib.Core.Logic.{_⊎_, inl, inr, ⊎-elim}
 use mathlib.Core.Bool.{Bool, true, false, cond, not, _&&_, false≢true, true≢false}

@@ -5,4 +5,4 @@ pub mod Book
 pub mod Status
 pub mod Told
 pub mod Reached
-pub mod Storage
+pub mod Places

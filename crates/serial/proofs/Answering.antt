@@ -1,5 +1,4 @@
 -- The three ways in which a call meets its promise: nothing is stored, registers alone are stored, or the number of waiting bytes changes.
--- Assumes nothing.
 use mathlib.Core.Path.{_≡_, refl, sym, ap, _∙_}
 use mathlib.Core.List.{List}
 use Prim.Native.Nat.{ℕ}

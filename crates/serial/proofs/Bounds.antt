@@ -1,5 +1,4 @@
 -- What a host may rely on: a port that holds too much does not exist, and a word comes apart again.
--- Assumes nothing.
 use mathlib.Core.Path.{_≡_, _∙_}
 use mathlib.Core.Bool.{Bool, true, false, cond}
 use mathlib.Core.List.{List, [], _∷_}

@@ -1,5 +1,4 @@
 -- What a write of IER is in the definition.
--- Assumes nothing.
 use mathlib.Core.Path.{_≡_}
 use mathlib.Core.Bool.{Bool, not}
 use mathlib.Core.List.{List}

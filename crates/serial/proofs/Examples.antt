@@ -1,5 +1,4 @@
 -- Runs of a fresh port of 64 bytes, worked out by hand and computed by antt.
--- Assumes nothing.
 use mathlib.Core.Path.{_≡_, refl}
 use mathlib.Core.Bool.{cond}
 use mathlib.Core.List.{List, [], _∷_}

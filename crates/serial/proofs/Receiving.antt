@@ -1,5 +1,4 @@
 -- What each answer is in the definition where bytes come to the receiver: from the loop, and from the line.
--- Assumes nothing.
 use mathlib.Core.Path.{_≡_, refl, sym, ap, _∙_}
 use mathlib.Core.Bool.{true, false}
 use mathlib.Core.List.{List, [], _∷_, _++_}

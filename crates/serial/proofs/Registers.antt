@@ -1,5 +1,4 @@
 -- The lent memory taken apart: nine registers and two positions, and behind them what is spare.
--- Assumes nothing.
 use mathlib.Core.Path.{_≡_, refl, sym, ap, ap₂, _∙_}
 use mathlib.Core.List.{List, [], _∷_, _++_}
 use Prim.Native.Nat.{ℕ, _≤_, _<_}

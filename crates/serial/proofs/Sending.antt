@@ -1,5 +1,4 @@
 -- What each answer of a write is in the definition, where no byte comes to the receiver.
--- Assumes nothing.
 use mathlib.Core.Path.{_≡_, refl, _∙_}
 use mathlib.Core.Bool.{true, false}
 use mathlib.Core.List.{List, [], _∷_}

@@ -1,6 +1,5 @@
 -- Writing and reading are inverse, and what reading comes to is known exactly. That nothing past the end is read needs no theorem: no index is out
 -- of range in code that is proved.
--- Assumes nothing.
 use mathlib.Core.Path.{_≡_, refl, sym, ap, ap₂, _∙_}
 use mathlib.Core.Bool.{true}
 use mathlib.Core.List.{List, [], _∷_, _++_}

@@ -1,5 +1,4 @@
 -- What each answer of the two calls is in the definition.
--- Assumes nothing.
 use mathlib.Core.Path.{_≡_, refl, sym, ap, subst, _∙_}
 use mathlib.Core.Logic.{_↔_}
 use mathlib.Core.Bool.{Bool, true, false, cond, false≢true, true≢false}

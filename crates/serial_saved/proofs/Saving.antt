@@ -1,6 +1,5 @@
 -- What a host may rely on, whatever the memory: a port comes back as it was, and so does what was saved. It follows from what the two calls
 -- promise.
--- Assumes nothing.
 use mathlib.Core.Path.{_≡_, refl, sym, ap, subst, _∙_}
 use mathlib.Core.HLevel.{⊥-prop}
 use mathlib.Core.Logic.{_↔_, _⊎_, inl, inr, ∥∥₁-elim}

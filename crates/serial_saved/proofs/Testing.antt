@@ -1,5 +1,4 @@
 -- What each answer of the test for reachable ports is in the definition, clause by clause.
--- Assumes nothing.
 use mathlib.Core.Path.{_≡_, refl, sym, _∙_}
 use mathlib.Core.Logic.{_↔_}
 use mathlib.Core.Bool.{Bool, true, false, cond, not, false≢true, true≢false}

@@ -1,5 +1,4 @@
 -- From single calls to runs: where every call agrees or is in a row, a run looks alike up to the first row that it meets.
--- Assumes nothing.
 use mathlib.Core.Path.{_≡_, subst}
 use mathlib.Core.Logic.{_⊎_, inl, inr}
 use mathlib.Core.List.{List, [], _∷_}

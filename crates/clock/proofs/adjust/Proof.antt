@@ -1,5 +1,4 @@
 -- `adjust` meets its contract. Three stores are the load register and how far the clock is ahead.
--- Assumes nothing.
 use Rattle.clock.proofs.Stores.{stores-lr}
 use borrow.Author.Needs.{needs}
 use Rattle.clock.proofs.adjust.Statement.{statement}

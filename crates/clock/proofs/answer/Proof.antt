@@ -1,5 +1,4 @@
 -- `answer` meets its contract. Four stores are the bytes of the value.
--- Assumes nothing.
 use mathlib.Core.Path.{refl}
 use Rattle.clock.proofs.Bytes.{stored}
 use borrow.Author.Needs.{needs}

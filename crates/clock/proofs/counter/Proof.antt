@@ -1,5 +1,4 @@
 -- `counter` meets its contract. The wrapped sum shows what the sum of integers shows.
--- Assumes nothing.
 use native.Mathlib.Omega.{arith}
 use Rattle.clock.proofs.Time.{counter-sum, counter-now}
 use borrow.Author.Needs.{needs}

@@ -1,5 +1,4 @@
 -- `eight_words` meets its contract. A slice says of each element that it fits its type.
--- Assumes nothing.
 use native.Mathlib.Omega.{arith}
 use borrow.Author.Needs.{needs}
 use Rattle.clock.proofs.eight_words.Statement.{statement}

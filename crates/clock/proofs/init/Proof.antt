@@ -1,5 +1,4 @@
 -- `init` meets its contract. Eight stores of 0 are the fresh clock and its spare words.
--- Assumes nothing.
 use Rattle.clock.proofs.Stores.{cleared}
 use borrow.Author.Needs.{needs}
 use Rattle.clock.proofs.init.Statement.{statement}

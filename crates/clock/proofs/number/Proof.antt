@@ -1,5 +1,4 @@
 -- `number` meets its contract. The sum of the weighted bytes is the number that they are.
--- Assumes nothing.
 use native.Mathlib.Omega.{arith}
 use Rattle.common.specs.Bytes.{valueOf}
 use borrow.Author.Needs.{needs}

@@ -1,5 +1,4 @@
 -- `read` meets its contract. Each return is the rule of the register at its offset.
--- Assumes nothing.
 use Rattle.clock.specs.Layout.{clockOf}
 use Rattle.clock.proofs.Registers.{reads-dr, reads-mr, reads-lr, reads-cr, reads-imsc, reads-ris, reads-mis, reads-id, reads-nothing}
 use Rattle.clock.proofs.Steps.{says-so, says-equal, says-nothing}

@@ -1,5 +1,4 @@
 -- `spare_is_zero` meets its contract: one word is tested, and then the other.
--- Assumes nothing.
 use Rattle.clock.proofs.Spare.{first-used, by-last}
 use borrow.Author.Needs.{needs}
 use Rattle.clock.proofs.spare_is_zero.Statement.{statement}

@@ -1,5 +1,4 @@
 -- `value_of` meets its contract. Four bytes read one by one are the list of them.
--- Assumes nothing.
 use mathlib.Core.Path.{_∙_}
 use Rattle.clock.proofs.Bytes.{loaded}
 use borrow.Author.Needs.{needs}

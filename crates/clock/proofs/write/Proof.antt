@@ -1,5 +1,4 @@
 -- `write` meets its contract. Each return is the rule of the register at its offset.
--- Assumes nothing.
 use Rattle.clock.specs.Layout.{clockOf}
 use Rattle.clock.proofs.Registers.{writes-mr, writes-imsc, writes-icr, writes-nothing}
 use Rattle.clock.proofs.Stores.{stores-mr, stores-imsc, stores-ris}

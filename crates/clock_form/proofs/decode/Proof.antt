@@ -1,5 +1,4 @@
 -- `decode` meets its contract: each return by its lemma.
--- Assumes nothing.
 use native.Mathlib.Omega.{arith}
 use Rattle.clock_form.proofs.Answers.{decode-no-version, decode-other-version, decode-cut-off, decode-left-over, decode-too-far, decode-reads}
 use borrow.Author.Needs.{needs}

@@ -1,5 +1,4 @@
 -- `encode` meets its contract: each return by its lemma.
--- Assumes nothing.
 use native.Mathlib.Omega.{arith}
 use Rattle.clock_form.proofs.Answers.{encode-too-far, encode-spare, encode-tells, encode-writes}
 use borrow.Author.Needs.{needs}

@@ -1,5 +1,4 @@
 -- `has_33_bits` meets its contract. The high half repeats the sign, or the offset is too far.
--- Assumes nothing.
 use native.Mathlib.Omega.{arith}
 use Rattle.clock_form.proofs.Offsets.{not-negative, negative, too-far}
 use Rattle.clock_form.proofs.has_33_bits.Statement.{statement}

@@ -1,5 +1,4 @@
 -- `put_version` meets its contract. Two stores are the bytes of the version.
--- Assumes nothing.
 use mathlib.Core.Path.{refl}
 use Rattle.common.specs.Bytes.{bytesOf}
 use borrow.Author.Needs.{needs}

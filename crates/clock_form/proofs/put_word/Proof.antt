@@ -1,5 +1,4 @@
 -- `put_word` meets its contract. Four stores are the bytes of the number.
--- Assumes nothing.
 use native.Mathlib.Omega.{arith}
 use lib.ListN.{length-set}
 use Rattle.clock_form.proofs.Numbers.{four-stores}

@@ -1,5 +1,4 @@
 -- `read` meets its contract. Eight stores are the eight words.
--- Assumes nothing.
 use Rattle.clock_form.proofs.Numbers.{reads-words}
 use borrow.Author.Needs.{needs}
 use Rattle.clock_form.proofs.read.Statement.{statement}

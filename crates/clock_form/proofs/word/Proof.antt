@@ -1,5 +1,4 @@
 -- `word` meets its contract. Four loads are the bytes that lie there.
--- Assumes nothing.
 use mathlib.Core.Path.{_∙_}
 use native.Mathlib.Omega.{arith}
 use Rattle.clock_form.proofs.Numbers.{four-at}

@@ -1,5 +1,4 @@
 -- `write` meets its contract. The version and six words, one behind another, are the form.
--- Assumes nothing.
 use Rattle.clock_form.proofs.Numbers.{writes}
 use borrow.Author.Needs.{needs}
 use Rattle.clock_form.proofs.write.Statement.{statement}

@@ -1,5 +1,4 @@
 -- A space, and the word.
--- Assumes nothing.
 use Rattle.words.proofs.Putting.{both}
 use borrow.Author.Needs.{needs}
 use Rattle.clock_lines.proofs.put_next.Statement.{statement}

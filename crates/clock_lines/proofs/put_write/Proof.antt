@@ -1,5 +1,4 @@
 -- One text or the other.
--- Assumes nothing.
 use borrow.Author.Needs.{needs}
 use Rattle.clock_lines.proofs.put_write.Statement.{statement}
 use Rattle.clock_lines.proofs.put_write.Tie as tie

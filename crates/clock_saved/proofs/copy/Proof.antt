@@ -1,5 +1,4 @@
 -- `copy` meets its contract. Eight stores are the eight words.
--- Assumes nothing.
 use Rattle.clock_saved.proofs.Restoring.{copied}
 use borrow.Author.Needs.{needs}
 use Rattle.clock_saved.proofs.copy.Statement.{statement}

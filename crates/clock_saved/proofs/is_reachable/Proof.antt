@@ -1,5 +1,4 @@
 -- `is_reachable` meets its contract: each test is a clause of `ReachableWords`.
--- Assumes nothing.
 use native.Mathlib.Omega.{arith}
 use Rattle.clock_saved.proofs.Restoring.{mask-too-wide, status-raised, spare-used, told-by-second}
 use borrow.Author.Needs.{needs}

@@ -1,5 +1,4 @@
 -- `restore` meets its contract: the words are copied, and told to be reachable or not.
--- Assumes nothing.
 use mathlib.Core.Path.{ap, sym}
 use Rattle.clock_saved.specs.Saved.{restoreAnswer}
 use Rattle.clock_saved.proofs.Restoring.{restores}

@@ -1,5 +1,4 @@
 -- `showed` meets its contract. The wrapped difference is the only second that it can have been.
--- Assumes nothing.
 use native.Mathlib.Omega.{arith}
 use Rattle.clock_saved.proofs.Restoring.{showed-then, never-showed}
 use borrow.Author.Needs.{needs}

@@ -1,5 +1,4 @@
 -- Each answer is a law of `Resets`.
--- Assumes nothing.
 use borrow.Author.Needs.{needs}
 use Rattle.i8042.proofs.Resets.{at-command-port, elsewhere}
 use Rattle.i8042.proofs.write.Statement.{statement}

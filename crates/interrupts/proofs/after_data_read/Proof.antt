@@ -1,5 +1,4 @@
 -- The answer is the definition, opened.
--- Assumes nothing.
 use borrow.Author.Tests.{eq-eqb, ne-eqb}
 use Rattle.interrupts.specs.Interrupts.{unmark}
 use Rattle.interrupts.proofs.after_data_read.Statement.{statement}

@@ -1,5 +1,4 @@
 -- Each answer is a law of `Laws`.
--- Assumes nothing.
 use mathlib.Core.Path.{sym, _∙_}
 use Rattle.interrupts.proofs.Laws.{due, not-due}
 use borrow.Author.Needs.{needs}

@@ -1,5 +1,4 @@
 -- Each answer is a law of `Laws`.
--- Assumes nothing.
 use Rattle.interrupts.proofs.Laws.{with-data, without-data}
 use borrow.Author.Needs.{needs}
 use Rattle.interrupts.proofs.enabling.Statement.{statement}

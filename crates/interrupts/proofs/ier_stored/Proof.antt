@@ -1,5 +1,4 @@
 -- The answer is the definition, opened.
--- Assumes nothing.
 use mathlib.Core.Path.{refl}
 use Rattle.interrupts.specs.Interrupts.{ierStored}
 use Rattle.interrupts.proofs.ier_stored.Statement.{statement}

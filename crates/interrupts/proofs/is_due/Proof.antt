@@ -1,5 +1,4 @@
 -- The answer is the definition, opened.
--- Assumes nothing.
 use mathlib.Core.Bool.{Bool·not-not}
 use borrow.Author.Tests.{eq-eqb, ne-eqb}
 use Rattle.interrupts.specs.Interrupts.{isDue}

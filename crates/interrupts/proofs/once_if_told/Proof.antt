@@ -1,5 +1,4 @@
 -- The answer is the definition, opened.
--- Assumes nothing.
 use native.Mathlib.Omega.{arith}
 use borrow.Author.Tests.{eq-eqb, ne-eqb}
 use Rattle.interrupts.proofs.once_if_told.Statement.{statement}

@@ -1,4 +1,3 @@
--- Assumes nothing.
 use Rattle.interrupts.proofs.Laws.{no, nothing-to-unmark}
 use borrow.Author.Tests.{ltb-true}
 use Rattle.interrupts.proofs.stays_at_data_read.Statement.{statement}

@@ -1,5 +1,4 @@
 -- The answer is the definition, opened.
--- Assumes nothing.
 use Rattle.line_status.specs.LineStatus.{lsrAfterRead}
 use Rattle.line_status.proofs.after_read.Statement.{statement}
 use Rattle.line_status.proofs.after_read.Tie as tie

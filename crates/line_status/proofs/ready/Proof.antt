@@ -1,5 +1,4 @@
 -- The answer is the definition, opened.
--- Assumes nothing.
 use mathlib.Core.Path.{refl}
 use Rattle.line_status.specs.LineStatus.{lsrReady}
 use Rattle.line_status.proofs.ready.Statement.{statement}

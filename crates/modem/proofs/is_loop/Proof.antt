@@ -1,5 +1,4 @@
 -- The answer is the definition, opened.
--- Assumes nothing.
 use mathlib.Core.Path.{refl}
 use Rattle.modem.specs.Modem.{isLoop}
 use Rattle.modem.proofs.is_loop.Statement.{statement}

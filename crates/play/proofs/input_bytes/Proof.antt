@@ -1,5 +1,4 @@
 -- `input_bytes` meets its contract: the two cases are those of `inputBytes`.
--- Assumes nothing.
 use borrow.Author.Needs.{needs}
 use borrow.Author.Tests.{eq-eqb, ne-eqb}
 use Rattle.play.proofs.input_bytes.Statement.{statement}

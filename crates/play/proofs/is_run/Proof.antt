@@ -1,5 +1,4 @@
 -- `is_run` meets its contract. The loop's invariant: whether the bytes are a run turns on what is left of them.
--- Assumes nothing.
 use Prim.Native.Nat.{_+_, _-_, _≤_}
 use lib.ListN.{length}
 use native.Mathlib.Omega.{arith}

@@ -1,5 +1,4 @@
 -- `play` meets its contract. The loop's invariant: the run is what the operations played so far did and what is left does.
--- Assumes nothing.
 use mathlib.Core.Path.{refl, sym, _∙_}
 use Prim.Native.Nat.{_+_, _-_, _*_, _<_, _≤_}
 use native.Mathlib.Omega.{arith}

@@ -1,5 +1,4 @@
 -- `play_one` meets its contract: each arm is one of the four operations.
--- Assumes nothing.
 use borrow.Author.Needs.{needs}
 use mathlib.Core.Path.{refl}
 use Rattle.play.proofs.Words.{does-read, does-write, does-input, does-room}

@@ -1,5 +1,4 @@
 -- The loop's invariant and its laws are of `Laws`.
--- Assumes nothing.
 use Prim.Native.Nat.{_-_}
 use Rattle.ring.specs.Ring.{placesHere}
 use Rattle.ring.proofs.Laws.{SoFar, none-yet, one-more-there, all-there}

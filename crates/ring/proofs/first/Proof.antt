@@ -1,5 +1,4 @@
 -- The answer is what `place` promises.
--- Assumes nothing.
 use native.Mathlib.Nat.{add-zero}
 use borrow.Author.Needs.{needs}
 use Rattle.ring.proofs.first.Statement.{statement}

@@ -1,5 +1,4 @@
 -- Each answer is a law of `Laws`.
--- Assumes nothing.
 use Rattle.ring.specs.Ring.{placesHere}
 use Rattle.ring.proofs.Laws.{put-none, put-more}
 use borrow.Author.Needs.{needs}

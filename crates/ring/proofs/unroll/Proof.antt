@@ -1,5 +1,4 @@
 -- The loop's invariant and its laws are of `Unrolling`.
--- Assumes nothing.
 use Prim.Native.Nat.{_-_}
 use Rattle.ring.specs.Ring.{placesHere}
 use borrow.Author.Needs.{needs}

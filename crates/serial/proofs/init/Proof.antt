@@ -1,5 +1,4 @@
 -- Each answer is a law of `Registers`.
--- Assumes nothing.
 use Rattle.serial.proofs.Registers.{makes-fresh}
 use borrow.Author.Needs.{needs}
 use Rattle.serial.proofs.init.Statement.{statement}

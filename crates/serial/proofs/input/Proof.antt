@@ -1,5 +1,4 @@
 -- Each answer is a law of `Receiving`.
--- Assumes nothing.
 use native.Mathlib.Omega.{arith}
 use mathlib.Core.Path.{refl, sym, _∙_}
 use Rattle.serial.specs.Layout.{portOf}

@@ -1,4 +1,3 @@
--- Assumes nothing.
 use native.Mathlib.Omega.{arith}
 use borrow.Author.Tests.{ltb-true, ltb-false}
 use Rattle.interrupts.proofs.Laws.{no}

@@ -1,5 +1,4 @@
 -- Each answer is a law of `Addressing` or `Reading`.
--- Assumes nothing.
 use mathlib.Core.Path.{_≡_, refl, sym, _∙_}
 use native.Mathlib.Omega.{arith}
 use Prim.Native.Nat.{ℕ, _≤_}

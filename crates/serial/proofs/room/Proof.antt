@@ -1,5 +1,4 @@
 -- Each answer is a law of `Receiving`.
--- Assumes nothing.
 use native.Mathlib.Omega.{arith}
 use Rattle.serial.proofs.Receiving.{room-left}
 use borrow.Author.Needs.{needs}

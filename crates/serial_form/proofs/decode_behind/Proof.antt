@@ -1,4 +1,3 @@
--- Assumes nothing.
 use native.Mathlib.Omega.{arith}
 use Rattle.common.specs.Forms.{tooShort, trailing, tooMany}
 use Rattle.serial_form.proofs.Reading.{too-many, too-few, left-over}

@@ -1,4 +1,3 @@
--- Assumes nothing.
 use Rattle.common.specs.Forms.{tooShort}
 use Rattle.serial_form.proofs.Reading.{no-count, counted, count-found}
 use Rattle.serial_form.proofs.Answers.{refuses, goes-on}

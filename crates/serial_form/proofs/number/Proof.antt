@@ -1,4 +1,3 @@
--- Assumes nothing.
 use Rattle.common.specs.Bytes.{valueOf}
 use borrow.Author.Needs.{needs}
 use Rattle.serial_form.proofs.number.Statement.{statement}

@@ -1,5 +1,4 @@
 -- The loop's invariant and its laws are of `Copying`.
--- Assumes nothing.
 use Prim.Native.Nat.{_-_}
 use Rattle.serial_form.proofs.Copying.{SoFar, none-yet, one-more, as-long, all-there}
 use borrow.Author.Needs.{needs}

@@ -1,4 +1,3 @@
--- Assumes nothing.
 use Rattle.serial_form.proofs.Answers.{writes}
 use borrow.Author.Needs.{needs}
 use Rattle.serial_form.proofs.write.Statement.{statement}

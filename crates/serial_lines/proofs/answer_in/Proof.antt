@@ -1,5 +1,4 @@
 -- Each answer is a law of `Answering`.
--- Assumes nothing.
 use mathlib.Core.Path.{sym, _∙_}
 use Rattle.serial_lines.proofs.Answering.{by-write, by-read, by-no-input, by-input, by-room, by-state, by-saved}
 use borrow.Author.Needs.{needs}

@@ -1,5 +1,4 @@
 -- Each answer is a law of `Answering`.
--- Assumes nothing.
 use Rattle.serial_lines.proofs.Answering.{bad-bytes, input-bytes}
 use Rattle.serial_lines.specs.Answers.{input}
 use mathlib.Core.Path.{ap}

@@ -1,5 +1,4 @@
 -- A space, and the byte.
--- Assumes nothing.
 use Rattle.words.proofs.Putting.{both}
 use borrow.Author.Needs.{needs}
 use Rattle.serial_lines.proofs.put_next.Statement.{statement}

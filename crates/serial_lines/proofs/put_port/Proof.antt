@@ -1,5 +1,4 @@
 -- The answer is a law of `Saying`.
--- Assumes nothing.
 use Rattle.serial_lines.proofs.Saying.{port-said}
 use Rattle.ring.specs.Ring.{queue}
 use Rattle.serial.specs.Layout.{places}

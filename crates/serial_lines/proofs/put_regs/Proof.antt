@@ -1,5 +1,4 @@
 -- Nine bytes, in threes.
--- Assumes nothing.
 use Rattle.serial_lines.proofs.Saying.{nine-said}
 use borrow.Author.Needs.{needs}
 use Rattle.serial_lines.proofs.put_regs.Statement.{statement}

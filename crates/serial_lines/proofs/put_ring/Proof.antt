@@ -1,5 +1,4 @@
 -- Byte by byte.
--- Assumes nothing.
 use Rattle.serial_lines.proofs.Saying.{none-yet, one-more, all-there}
 use Rattle.words.specs.Put.{Puts}
 use Rattle.ring.specs.Ring.{queue}

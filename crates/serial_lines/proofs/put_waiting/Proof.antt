@@ -1,5 +1,4 @@
 -- Each answer is a law of `Saying`.
--- Assumes nothing.
 use Rattle.serial_lines.proofs.Saying.{none-wait, some-wait}
 use borrow.Author.Needs.{needs}
 use Rattle.serial_lines.proofs.put_waiting.Statement.{statement}

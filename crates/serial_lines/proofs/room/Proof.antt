@@ -1,5 +1,4 @@
 -- One part after the other.
--- Assumes nothing.
 use mathlib.Core.Path.{ap}
 use Rattle.words.specs.Decimal.{decimalOf}
 use Rattle.words.proofs.Putting.{both, instead}

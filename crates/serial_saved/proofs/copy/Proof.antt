@@ -1,5 +1,4 @@
 -- The answer is a law of `Moving`.
--- Assumes nothing.
 use Rattle.serial_saved.proofs.Moving.{all-copied}
 use borrow.Author.Needs.{needs}
 use Rattle.serial_saved.proofs.copy.Statement.{statement}

@@ -1,5 +1,4 @@
 -- The answer is a law of `Raising`.
--- Assumes nothing.
 use Rattle.serial_saved.proofs.Raising.{as-raised}
 use borrow.Author.Needs.{needs}
 use Rattle.serial_saved.proofs.raises.Statement.{statement}

@@ -1,5 +1,4 @@
 -- Each answer is a law of `Bringing`.
--- Assumes nothing.
 use Prim.Native.Nat.{_≤_}
 use native.Mathlib.Omega.{arith}
 use Rattle.serial_saved.specs.Saved.{savedOf}

@@ -1,5 +1,4 @@
 -- The answer is a law of `Bringing`.
--- Assumes nothing.
 use Rattle.serial_saved.proofs.Bringing.{saves}
 use borrow.Author.Needs.{needs}
 use Rattle.serial_saved.proofs.save.Statement.{statement}

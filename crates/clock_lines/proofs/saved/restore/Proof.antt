@@ -1,5 +1,4 @@
 -- A law of `Answering`.
--- Assumes nothing.
 use Rattle.clock_lines.proofs.Answering.{restores}
 use borrow.Author.Needs.{needs}
 use Rattle.clock_lines.proofs.saved.restore.Statement.{statement}

@@ -1,5 +1,4 @@
 -- Each answer is a law of `Answering`.
--- Assumes nothing.
 use Rattle.clock_lines.proofs.Answering.{some-kept, none-kept, nothing-asked}
 use borrow.Author.Needs.{needs}
 use Rattle.clock_lines.proofs.saved.restore_kept.Statement.{statement}

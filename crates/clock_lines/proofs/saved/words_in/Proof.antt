@@ -1,5 +1,4 @@
 -- Six words, one after the other, and two zeros.
--- Assumes nothing.
 use Rattle.clock_lines.proofs.Answering.{eight}
 use borrow.Author.Needs.{needs}
 use Rattle.clock_lines.proofs.saved.words_in.Statement.{statement}

@@ -1,5 +1,4 @@
 -- The answer is a law of `Enabling`.
--- Assumes nothing.
 use native.Mathlib.Omega.{arith}
 use Rattle.serial.proofs.Enabling.{writes-ier}
 use borrow.Author.Needs.{needs}

@@ -1,5 +1,4 @@
 -- The answer is a law of `Reading`.
--- Assumes nothing.
 use mathlib.Core.Path.{_∙_}
 use mathlib.Core.Bool.{not}
 use lib.Dec.{eqb}

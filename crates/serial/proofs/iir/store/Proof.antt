@@ -1,5 +1,4 @@
 -- What is stored already stays.
--- Assumes nothing.
 use Rattle.serial.proofs.Leaves.{stays}
 use borrow.Author.Needs.{needs}
 use Rattle.serial.proofs.iir.store.Statement.{statement}

@@ -1,5 +1,4 @@
 -- The loop's invariant and its laws are of `Spares`.
--- Assumes nothing.
 use Prim.Native.Nat.{_-_}
 use borrow.Author.Needs.{needs}
 use Rattle.serial.proofs.Spares.{ZeroUpTo, none-yet, one-more, all-zero, one-other}

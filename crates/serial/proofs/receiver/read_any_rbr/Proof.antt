@@ -1,4 +1,3 @@
--- Assumes nothing.
 use mathlib.Core.Path.{_∙_}
 use lib.Dec.{ltb}
 use Rattle.serial.specs.Layout.{portOf}

@@ -1,5 +1,4 @@
 -- The answer is put together from what the rooms promise.
--- Assumes nothing.
 use mathlib.Core.Path.{refl}
 use borrow.Author.Needs.{needs}
 use Rattle.serial.proofs.receiver.receive.Statement.{statement}

@@ -1,5 +1,4 @@
 -- Each answer is a law of `Receiving`.
--- Assumes nothing.
 use native.Mathlib.Omega.{arith}
 use mathlib.Core.Path.{refl}
 use Rattle.serial.proofs.Receiving.{loop-drops, loop-receives}

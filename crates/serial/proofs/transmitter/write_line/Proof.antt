@@ -1,5 +1,4 @@
 -- The answer is a law of `Sending`.
--- Assumes nothing.
 use native.Mathlib.Omega.{arith}
 use Rattle.serial.proofs.Sending.{line-sends}
 use borrow.Author.Needs.{needs}

@@ -1,4 +1,3 @@
--- Assumes nothing.
 use Rattle.interrupts.proofs.Laws.{no}
 use borrow.Author.Tests.{leb-true}
 use Rattle.serial.proofs.waiting.several.Statement.{statement}

@@ -1,4 +1,3 @@
--- Assumes nothing.
 use mathlib.Core.Path.{_∙_}
 use borrow.Author.Needs.{needs}
 use Rattle.serial.proofs.waiting.take.Statement.{statement}

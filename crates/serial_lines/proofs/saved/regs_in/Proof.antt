@@ -1,5 +1,4 @@
 -- Nine registers, one after the other, and what is spare.
--- Assumes nothing.
 use Rattle.serial_lines.proofs.Saying.{nine}
 use mathlib.Core.Path.{refl}
 use borrow.Author.Needs.{needs}

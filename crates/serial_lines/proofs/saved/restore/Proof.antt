@@ -1,5 +1,4 @@
 -- Each answer is a law of `Saying`.
--- Assumes nothing.
 use Rattle.serial_lines.proofs.Saying.{brings-full, brings-reached, brings-unreached}
 use borrow.Author.Needs.{needs}
 use Rattle.serial_lines.proofs.saved.restore.Statement.{statement}

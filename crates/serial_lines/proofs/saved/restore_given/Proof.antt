@@ -1,5 +1,4 @@
 -- Each answer is a law of `Answering`.
--- Assumes nothing.
 use Rattle.serial.specs.Layout.{freshSpareRegisters}
 use Rattle.serial_lines.proofs.Answering.{bad-bytes, given-bytes}
 use Rattle.serial_lines.specs.Answers.{restore, givenIn}

@@ -1,5 +1,4 @@
 -- Each answer is a law of `Answering`.
--- Assumes nothing.
 use Rattle.serial_lines.proofs.Answering.{none-kept, some-kept}
 use borrow.Author.Needs.{needs}
 use Rattle.serial_lines.proofs.saved.restore_kept.Statement.{statement}

@@ -1,5 +1,4 @@
 -- Every element of a slice is a value of its type.
--- Assumes nothing.
 use native.Mathlib.Omega.{arith}
 use Rattle.serial_saved.proofs.Testing.{bytes-below}
 use borrow.Author.Needs.{needs}

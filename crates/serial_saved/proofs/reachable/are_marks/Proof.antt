@@ -1,5 +1,4 @@
 -- Each answer is a law of `Testing`.
--- Assumes nothing.
 use Rattle.serial_saved.proofs.Testing.{is-neither, is-transmitter, is-receiver, is-both, is-none}
 use Rattle.serial_saved.proofs.reachable.are_marks.Statement.{statement}
 use Rattle.serial_saved.proofs.reachable.are_marks.Tie as tie

@@ -1,5 +1,4 @@
 -- Each answer is a law of `Testing`.
--- Assumes nothing.
 use mathlib.Core.Path.{refl}
 use native.Mathlib.Omega.{arith}
 use Rattle.serial_saved.proofs.Testing.{wide-ier, other-msr, other-lsr, other-marks, never-read, left-full, decided}

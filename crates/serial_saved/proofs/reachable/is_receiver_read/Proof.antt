@@ -1,5 +1,4 @@
 -- Each answer is a law of `Testing`.
--- Assumes nothing.
 use Rattle.serial_saved.proofs.Testing.{disabled-receiver, marked-receiver, neither-marked, enabled-transmitter, unmarked-receiver}
 use Rattle.serial_saved.proofs.reachable.is_receiver_read.Statement.{statement}
 use Rattle.serial_saved.proofs.reachable.is_receiver_read.Tie as tie

@@ -1,5 +1,4 @@
 -- Each answer is a law of `Testing`.
--- Assumes nothing.
 use Rattle.serial_saved.proofs.Testing.{disabled-transmitter, marked-transmitter, unmarked-data, unmarked-transmitter}
 use Rattle.serial_saved.proofs.reachable.is_transmitter_read.Statement.{statement}
 use Rattle.serial_saved.proofs.reachable.is_transmitter_read.Tie as tie

@@ -1,5 +1,4 @@
 -- Each answer is a law of `Testing`.
--- Assumes nothing.
 use Rattle.serial_saved.proofs.Testing.{status-none, status-some}
 use Rattle.serial_saved.proofs.reachable.status.Statement.{statement}
 use Rattle.serial_saved.proofs.reachable.status.Tie as tie

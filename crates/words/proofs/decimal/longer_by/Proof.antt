@@ -1,5 +1,4 @@
 -- Each answer is a law of `Decimals`.
--- Assumes nothing.
 use native.Mathlib.Omega.{arith}
 use Rattle.words.proofs.Decimals.{below-digits, above-digits, too-large, one-longer}
 use borrow.Author.Needs.{needs}

@@ -1,5 +1,4 @@
 -- The loop goes along the word, by the laws of `Decimals`.
--- Assumes nothing.
 use Prim.Native.Nat.{_-_, _^_, _≤_, _<_}
 use mathlib.Core.Path.{_≡_, sym, _∙_}
 use borrow.Author.Needs.{needs}

@@ -1,5 +1,4 @@
 -- Each answer is a law of `Decimals`.
--- Assumes nothing.
 use Rattle.words.proofs.Decimals.{from-place, past-end}
 use borrow.Author.Needs.{needs}
 use Rattle.words.proofs.decimal.parse_from.Statement.{statement}

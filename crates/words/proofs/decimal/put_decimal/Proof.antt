@@ -1,5 +1,4 @@
 -- The digits are those of `io::decimal`.
--- Assumes nothing.
 use Rattle.words.proofs.Decimals.{put-fewest}
 use borrow.Author.Needs.{needs}
 use Rattle.words.proofs.decimal.put_decimal.Statement.{statement}

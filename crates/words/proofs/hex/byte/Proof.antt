@@ -1,5 +1,4 @@
 -- Each answer is a law of `Digits`.
--- Assumes nothing.
 use borrow.Author.Needs.{needs}
 use Rattle.words.proofs.Digits.{two}
 use Rattle.words.proofs.hex.byte.Statement.{statement}

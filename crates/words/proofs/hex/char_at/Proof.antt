@@ -1,5 +1,4 @@
 -- Each answer is a law of `Digits`.
--- Assumes nothing.
 use borrow.Author.Needs.{needs}
 use Rattle.words.proofs.Digits.{no-character}
 use Rattle.words.proofs.hex.char_at.Statement.{statement}

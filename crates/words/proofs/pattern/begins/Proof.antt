@@ -1,5 +1,4 @@
 -- Each answer is a law of `Patterns`.
--- Assumes nothing.
 use Rattle.words.proofs.Patterns.{shorter, begins-at}
 use borrow.Author.Needs.{needs}
 use Rattle.words.proofs.pattern.begins.Statement.{statement}

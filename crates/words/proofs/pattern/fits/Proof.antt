@@ -1,5 +1,4 @@
 -- The loop goes along the line and its pattern, by the laws of `Patterns`.
--- Assumes nothing.
 use borrow.Author.Needs.{needs}
 use borrow.Author.Tests.{not-true, not-false}
 use native.Mathlib.Omega.{arith}

@@ -1,5 +1,4 @@
 -- Each answer is a law of `Digits`.
--- Assumes nothing.
 use borrow.Author.Needs.{needs}
 use Rattle.words.proofs.Digits.{before-capitals, after-capitals, capital}
 use Rattle.words.proofs.pattern.stands_for.Statement.{statement}

@@ -1,5 +1,4 @@
 -- Each answer is a law of `Digits`.
--- Assumes nothing.
 use borrow.Author.Needs.{needs}
 use Rattle.words.proofs.Digits.{digits-put}
 use Rattle.words.proofs.put.put_byte.Statement.{statement}

@@ -1,5 +1,4 @@
 -- The answer is a law of `Digits`.
--- Assumes nothing.
 use Rattle.words.proofs.Digits.{half-put}
 use borrow.Author.Needs.{needs}
 use Rattle.words.proofs.put.put_half.Statement.{statement}

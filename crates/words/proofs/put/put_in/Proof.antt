@@ -1,5 +1,4 @@
 -- Its answer is a law of `Putting`, once the loop is done.
--- Assumes nothing.
 use Prim.Native.Nat.{_+_, _-_, _≤_, _<_}
 use mathlib.Core.Path.{_≡_}
 use borrow.Author.Needs.{needs}
