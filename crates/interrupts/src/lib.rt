@@ -10,10 +10,12 @@ ghost use Rattle.interrupts.specs.Calls.{Tells};
 // No interrupt is pending, as in a fresh port.
 pub const NONE_PENDING: u8 = 0x01;
 
-// What is to be stored in IIR, and how often the interrupt is to be raised.
+// What is to be stored in IIR, and how often the interrupt is to be raised. Where nothing changes
+// nothing need be stored.
 pub struct Told {
     pub iir: u8,
     pub raises: u32,
+    pub changes: bool,
 }
 
 // IER keeps four bits.
@@ -41,34 +43,39 @@ fn is_due(ier: u8, iir: u8, enabled: u8, marked: u8) -> bool
 }
 
 fn announce(ier: u8, iir: u8, enabled: u8, marked: u8) -> Told
-    ensures { λ r. ⌜ Tells (announce ier iir (record { enabledBy = enabled; markedBy = marked })) (r .iir) (r .raises) 1 ⌝ }
+    ensures { λ r. ⌜ Tells (announce ier iir (record { enabledBy = enabled; markedBy = marked })) iir (r .iir) (r .raises) (r .changes) 1 ⌝ }
 {
     if is_due(ier, iir, enabled, marked) {
         return Told {
             iir: mark(iir, marked),
             raises: 1,
+            changes: true,
         };
     }
-    Told { iir, raises: 0 }
+    Told {
+        iir,
+        raises: 0,
+        changes: false,
+    }
 }
 
 // Bytes have come to the receiver.
 pub fn data_came(ier: u8, iir: u8, waits: bool) -> Told
-    ensures { λ r. ⌜ Tells (dataCame ier iir waits) (r .iir) (r .raises) 1 ⌝ }
+    ensures { λ r. ⌜ Tells (dataCame ier iir waits) iir (r .iir) (r .raises) (r .changes) 1 ⌝ }
 {
     announce(ier, iir, 0x01, 0x04)
 }
 
 // A byte was sent.
 pub fn byte_sent(ier: u8, iir: u8, waits: bool) -> Told
-    ensures { λ r. ⌜ Tells (byteSent ier iir waits) (r .iir) (r .raises) 1 ⌝ }
+    ensures { λ r. ⌜ Tells (byteSent ier iir waits) iir (r .iir) (r .raises) (r .changes) 1 ⌝ }
 {
     announce(ier, iir, 0x02, 0x02)
 }
 
 // IER was written: what there is to announce is announced under the new value.
 pub fn enabling(ier: u8, iir: u8, waits: bool) -> Told
-    ensures { λ r. ⌜ Tells (enabling ier iir waits) (r .iir) (r .raises) 2 ⌝ }
+    ensures { λ r. ⌜ Tells (enabling ier iir waits) iir (r .iir) (r .raises) (r .changes) 2 ⌝ }
 {
     if waits {
         let received = announce(ier, iir, 0x01, 0x04);
@@ -76,6 +83,7 @@ pub fn enabling(ier: u8, iir: u8, waits: bool) -> Told
         return Told {
             iir: sent.iir,
             raises: received.raises + sent.raises,
+            changes: true,
         };
     }
     announce(ier, iir, 0x02, 0x02)

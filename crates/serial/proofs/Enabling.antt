@@ -1,7 +1,7 @@
 -- What a write of IER is in the definition.
 -- Assumes nothing.
 use mathlib.Core.Path.{_≡_}
-use mathlib.Core.Bool.{not}
+use mathlib.Core.Bool.{Bool, not}
 use mathlib.Core.List.{List}
 use Prim.Native.Nat.{ℕ, _+_, _*_}
 use native.Mathlib.Omega.{arith}
@@ -16,8 +16,8 @@ use Rattle.serial.proofs.Leaves.{waits-is}
 use Rattle.serial.proofs.Registers.{one-stored, then-stored, enabled}
 use Rattle.serial.proofs.Answering.{registers-alone}
 
-pub writes-ier : (regs pos ring : List ℕ) → length regs ≡ 16 → (v w : ℕ) → w ≡ ierStored v → {iir raises r : ℕ}
-    → Tells (enabling w (getD regs 2 0) (not (eqb (getD pos 1 0) 0))) iir raises 2 → r ≡ 0x100_0000 * raises
+pub writes-ier : (regs pos ring : List ℕ) → length regs ≡ 16 → (v w : ℕ) → w ≡ ierStored v → {iir raises r : ℕ} {changes : Bool}
+    → Tells (enabling w (getD regs 2 0) (not (eqb (getD pos 1 0) 0))) (getD regs 2 0) iir raises changes 2 → r ≡ 0x100_0000 * raises
     → Writes (λ q. writeIer q v) regs pos ring (set (set regs 1 w) 2 iir) pos ring r
 unfolding portOf writeIer
 writes-ier regs pos ring n v w s t h =

@@ -17,8 +17,8 @@ use Rattle.serial.specs.Inside.{WaitAfterRead}
 
 -- ---- IIR stays where it is to become what it is
 
-pub stays : (regs : List ℕ) {iir new : ℕ} → iir ≡ getD regs 2 0 → new ≡ iir → regs ≡ set regs 2 new
-stays regs e same = sym (set-getD regs 2 0) ∙ rw (same, e)
+pub stays : (regs : List ℕ) {new : ℕ} → new ≡ getD regs 2 0 → regs ≡ set regs 2 new
+stays regs e = sym (set-getD regs 2 0) ∙ rw e
 
 -- ---- Whether a byte waits
 

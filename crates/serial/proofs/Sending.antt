@@ -21,7 +21,7 @@ module _ (regs pos ring : List ℕ) where
   p = portOf regs pos ring
 
   -- A byte goes out.
-  pub line-sends : length regs ≡ 16 → (v : ℕ) {iir raises r : ℕ} (waits : Bool) → Tells (byteSent (getD regs 1 0) (getD regs 2 0) waits) iir raises 1 → r ≡ v + 0x2_0000 + 0x100_0000 * raises
+  pub line-sends : length regs ≡ 16 → (v : ℕ) {iir raises r : ℕ} {changes : Bool} (waits : Bool) → Tells (byteSent (getD regs 1 0) (getD regs 2 0) waits) (getD regs 2 0) iir raises changes 1 → r ≡ v + 0x2_0000 + 0x100_0000 * raises
       → Writes (λ q. writeLine q v) regs pos ring (set regs 2 iir) pos ring r
   unfolding portOf writeLine
   line-sends n v waits a e =

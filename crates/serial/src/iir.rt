@@ -6,6 +6,7 @@ use crate::memory::IIR;
 use crate::memory::Pos;
 use crate::memory::Regs;
 ghost use mathlib.Core.Path.{_≡_};
+ghost use mathlib.Core.Bool.{false};
 ghost use mathlib.Core.List.{List};
 ghost use Prim.Native.Nat.{ℕ};
 ghost use lib.ListN.{getD, set};
@@ -24,12 +25,12 @@ pub fn read(regs: &mut Regs, pos: &Pos) -> u32
     memory::wide(interrupts::identification(ier, iir, waits))
 }
 
-// IIR becomes `new` where it is not `iir` already, which lies there.
-pub fn store(regs: &mut Regs, iir: u8, new: u8)
-    requires { ⌜ iir ≡ getD (now regs) 2 0 ⌝ }
+// IIR becomes `new`, which lies there already if nothing changes.
+pub fn store(regs: &mut Regs, changes: bool, new: u8)
+    requires { ⌜ (changes ≡ false → new ≡ getD (now regs) 2 0) ⌝ }
     ensures { λ r. ⌜ now (regs .exit) ≡ set (now (regs .entry)) 2 new ⌝ }
 {
-    if new != iir {
+    if changes {
         memory::regs_len(regs);
         regs[IIR] = new;
     }

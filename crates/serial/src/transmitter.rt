@@ -33,6 +33,6 @@ fn write_line(regs: &mut Regs, waits: bool, value: u8) -> u32
     memory::regs_len(regs);
     let iir = regs[IIR];
     let told = interrupts::byte_sent(regs[IER], iir, waits);
-    iir::store(regs, iir, told.iir);
+    iir::store(regs, told.changes, told.iir);
     memory::wide(value) + SENT + ONE_RAISE * told.raises
 }

@@ -15,7 +15,7 @@ returns : tie.Need-returns
 returns c = search needs
 
 returns-2 : tie.Need-returns-2
-returns-2 c = stays _ (c .before .pre) (c .if1 .left)
+returns-2 c = stays _ (c .before .pre (c .if1 .left))
 
 pub store-spec : {M : Type 1} → statement M
 store-spec = tie.close (tie.spec regs-len-requires element-write-regs returns returns-2)
