@@ -68,8 +68,10 @@ pub fn receive(regs: &mut Regs, pos: &mut Pos, n: u32) -> u32
     memory::regs_len(regs);
     memory::pos_len(pos);
     let lsr = regs[LSR];
-    let told = interrupts::data_came(regs[IER], regs[IIR], pos[COUNT] != 0);
+    let waits = pos[COUNT] != 0;
     pos[COUNT] = n;
+    let iir = regs[IIR];
+    let told = interrupts::data_came(regs[IER], iir, waits);
     iir::store(regs, told.changes, told.iir);
     regs[LSR] = line_status::ready(lsr);
     told.raises

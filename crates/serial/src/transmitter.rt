@@ -31,7 +31,8 @@ fn write_line(regs: &mut Regs, waits: bool, value: u8) -> u32
     ensures { λ r. ⌜ ((pos ring : List ℕ) → Writes (λ p. writeLine p value) (now (regs .entry)) pos ring (now (regs .exit)) pos ring r) ⌝ }
 {
     memory::regs_len(regs);
-    let told = interrupts::byte_sent(regs[IER], regs[IIR], waits);
+    let iir = regs[IIR];
+    let told = interrupts::byte_sent(regs[IER], iir, waits);
     iir::store(regs, told.changes, told.iir);
     memory::wide(value) + SENT + ONE_RAISE * told.raises
 }

@@ -13,20 +13,20 @@ pos-len-requires c κs = search needs
 element-copy-out-lsr : tie.Need-element-copy-out-lsr
 element-copy-out-lsr c = search needs
 
-element-copy-out-data-came : tie.Need-element-copy-out-data-came
-element-copy-out-data-came c = search needs
-
-element-copy-out-data-came-2 : tie.Need-element-copy-out-data-came-2
-element-copy-out-data-came-2 c = search needs
-
-element-copy-out-data-came-3 : tie.Need-element-copy-out-data-came-3
-element-copy-out-data-came-3 c = search needs
-
-data-came-requires : tie.Need-data-came-requires
-data-came-requires c κs = search needs
+element-copy-out-waits : tie.Need-element-copy-out-waits
+element-copy-out-waits c = search needs
 
 element-write-pos : tie.Need-element-write-pos
 element-write-pos c = search needs
+
+element-copy-out-iir : tie.Need-element-copy-out-iir
+element-copy-out-iir c = search needs
+
+element-copy-out-data-came : tie.Need-element-copy-out-data-came
+element-copy-out-data-came c = search needs
+
+data-came-requires : tie.Need-data-came-requires
+data-came-requires c κs = search needs
 
 store-requires : tie.Need-store-requires
 store-requires c κs = search needs
@@ -49,11 +49,11 @@ receive-spec =
     regs-len-requires
     pos-len-requires
     element-copy-out-lsr
-    element-copy-out-data-came
-    element-copy-out-data-came-2
-    element-copy-out-data-came-3
-    data-came-requires
+    element-copy-out-waits
     element-write-pos
+    element-copy-out-iir
+    element-copy-out-data-came
+    data-came-requires
     store-requires
     ready-requires
     element-write-regs
