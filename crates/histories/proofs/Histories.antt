@@ -11,7 +11,7 @@ use Rattle.serial.specs.Port.{Port}
 use Rattle.runs.specs.Run.{Op, Answer, step, run}
 use Rattle.runs.specs.Book.{bookOf, allAccepted, allDelivered}
 use Rattle.runs.specs.Status.{Truthful}
-use Rattle.serial.specs.Reachable.{Reachable}
+use Rattle.runs.specs.Reachable.{Reachable}
 use Rattle.runs.specs.Reached.{OfBytes}
 use Rattle.runs.proofs.Effects.{run-on}
 use Rattle.runs.proofs.Conserved.{conserved, never-more, run-size}

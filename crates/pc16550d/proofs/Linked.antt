@@ -9,8 +9,8 @@ use Rattle.common.specs.Lists.{some}
 use Rattle.interrupts.specs.Interrupts.{receivedData, isMarked}
 use Rattle.serial.specs.Port.{Port}
 use Rattle.serial.specs.Layout.{size}
-use Rattle.serial.specs.Reachable.{Reachable, neither, onlyTransmitter, onlyReceiver, twoKinds}
-use Rattle.serial.specs.Reachable as reached
+use Rattle.runs.specs.Reachable.{Reachable, neither, onlyTransmitter, onlyReceiver, twoKinds}
+use Rattle.runs.specs.Reachable as reached
 use Rattle.pc16550d.specs.Chip.{Op}
 use Rattle.pc16550d.specs.Compare.{Marks, noMark, transmitterMark, dataMark, bothMarks, Sound, AgreesAt, RowAt}
 use Rattle.pc16550d.proofs.Exact.{complete, real}

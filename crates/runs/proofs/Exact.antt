@@ -22,7 +22,7 @@ use Rattle.runs.proofs.Reachable.{all-reachable}
 use Rattle.runs.specs.Run.{Op, read, write, input, step, run}
 use Rattle.serial.specs.Sources.{Source, receiver, transmitter, kindOf}
 use Rattle.runs.proofs.Rooms.{Outcome, raised, quiet, outcome}
-use Rattle.serial.specs.Reachable.{Written, Marks, neither, onlyTransmitter, onlyReceiver, twoKinds, Reachable}
+use Rattle.runs.specs.Reachable.{Written, Marks, neither, onlyTransmitter, onlyReceiver, twoKinds, Reachable}
 use Rattle.runs.specs.Reached.{AllOfBytes, Reached}
 
 -- ---- A run that goes on

@@ -17,7 +17,7 @@ use Rattle.serial.specs.Port.{Register, RBR-THR, IER, IIR-FCR, LCR, MCR, LSR, M
 use Rattle.runs.specs.Run.{Op, read, write, input, room, Answer, step, run}
 use Rattle.runs.specs.Book.{Book, isData, accepted, taken, bookOf}
 use Rattle.serial.specs.Sources.{Source, receiver, transmitter, kindOf, marked}
-use Rattle.serial.specs.Reachable.{Written, Marks, neither, onlyTransmitter, onlyReceiver, twoKinds, Unmarked, Reachable}
+use Rattle.runs.specs.Reachable.{Written, Marks, neither, onlyTransmitter, onlyReceiver, twoKinds, Unmarked, Reachable}
 use Rattle.runs.specs.Reached.{OfBytes, AllOfBytes}
 use Rattle.runs.proofs.Rooms.{unmark-receiver, none-marked, Outcome, raised, quiet, outcome, announced-marked}
 use Rattle.runs.proofs.Registers.{both, put, write-puts}

@@ -4,5 +4,6 @@ pub mod Run
 pub mod Book
 pub mod Status
 pub mod Told
+pub mod Reachable
 pub mod Reached
 pub mod Places

@@ -10,7 +10,7 @@ use Rattle.common.specs.Lists.{some}
 use Rattle.serial.specs.Port.{Port, Out, Input, readOf, writeOf, inputOf, roomOf}
 use Rattle.serial.specs.Layout.{size, portOf, spareRegisters, freshSpareRegisters}
 use Rattle.serial.specs.Calls.{oneRaise, readWord}
-use Rattle.serial.specs.Reachable.{Reachable}
+use Rattle.runs.specs.Reachable.{Reachable}
 use Rattle.serial_saved.specs.Saved.{Restore, savedOf, restoreOf}
 use Rattle.words.specs.Decimal.{decimalOf}
 use Rattle.words.specs.Hex.{byteAt, digitsOf, bytesOf, areBytes}

@@ -13,7 +13,7 @@ use lib.ListN.{length, take}
 use Rattle.serial.specs.Port.{Port}
 use Rattle.serial.specs.Layout.{size, portOf, spareRegisters, freshSpareRegisters}
 use Rattle.serial.specs.Sources.{Source, receiver, transmitter, enabled, marked}
-use Rattle.serial.specs.Reachable.{Reachable}
+use Rattle.runs.specs.Reachable.{Reachable}
 use Rattle.serial.proofs.Bounds.{memory-fits}
 use Rattle.serial_saved.specs.Saved.{savedOf, isTold, ifTold, raisedAgain, Restore, restoreOf}
 use Rattle.serial_saved.specs.Calls.{Saves, restoreWord, ReachableSaved, Restores}

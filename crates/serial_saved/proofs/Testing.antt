@@ -13,7 +13,7 @@ use Rattle.common.specs.Bits.{on}
 use Rattle.common.specs.Bytes.{Bytes}
 use Rattle.common.specs.Lists.{some}
 use Rattle.serial.specs.Layout.{size, portOf, spareRegisters, freshSpareRegisters}
-use Rattle.serial.specs.Reachable.{Marks, neither, onlyTransmitter, onlyReceiver, twoKinds}
+use Rattle.runs.specs.Reachable.{Marks, neither, onlyTransmitter, onlyReceiver, twoKinds}
 use Rattle.serial_saved.specs.Saved.{savedOf}
 use Rattle.serial_saved.specs.Calls.{ReachableSaved}
 use Rattle.serial_saved.specs.Inside.{TransmitterRead, ReceiverRead}

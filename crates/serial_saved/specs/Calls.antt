@@ -7,7 +7,7 @@ use mathlib.Core.Bool.{Bool, true, false, cond}
 use lib.ListN.{length, take, drop}
 use Rattle.serial.specs.Layout.{size, portOf, unusedOf, spareRegisters, sparePositions, freshSpareRegisters}
 use Rattle.serial.specs.Calls.{refusedBit, reachableBit, oneRaise}
-use Rattle.serial.specs.Reachable.{Reachable}
+use Rattle.runs.specs.Reachable.{Reachable}
 use Rattle.serial_saved.specs.Saved.{savedOf, Restore, restoreOf}
 
 -- The port is saved: all its registers as they lie, the spare ones too, and as many bytes as wait, the first to be read first. What lies behind

@@ -15,7 +15,7 @@ ghost use lib.ListN.{length};
 ghost use Rattle.common.specs.Bytes.{Bytes};
 ghost use Rattle.common.specs.Lists.{some};
 ghost use Rattle.serial.specs.Layout.{size};
-ghost use Rattle.serial.specs.Reachable.{Marks};
+ghost use Rattle.runs.specs.Reachable.{Marks};
 ghost use Rattle.serial_saved.specs.Calls.{ReachableSaved};
 ghost use Rattle.serial_saved.specs.Inside.{TransmitterRead, ReceiverRead};
 
