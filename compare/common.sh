@@ -1,3 +1,4 @@
+# shellcheck shell=bash
 # Shared by the judge's commands. They can be called from anywhere and work in the repository's root.
 
 set -u
