@@ -8,11 +8,11 @@ use Rattle.serial.proofs.transmitter.write_line.Tie as tie
 regs-len-requires : tie.Need-regs-len-requires
 regs-len-requires c κs = search needs
 
+element-copy-out-iir : tie.Need-element-copy-out-iir
+element-copy-out-iir c = search needs
+
 element-copy-out-byte-sent : tie.Need-element-copy-out-byte-sent
 element-copy-out-byte-sent c = search needs
-
-element-copy-out-byte-sent-2 : tie.Need-element-copy-out-byte-sent-2
-element-copy-out-byte-sent-2 c = search needs
 
 byte-sent-requires : tie.Need-byte-sent-requires
 byte-sent-requires c κs = search needs
@@ -44,8 +44,8 @@ write-line-spec =
     tie.close
     (tie.spec
     regs-len-requires
+    element-copy-out-iir
     element-copy-out-byte-sent
-    element-copy-out-byte-sent-2
     byte-sent-requires
     store-requires
     wide-requires
