@@ -212,7 +212,7 @@ def is_a_kit_that_has_changed_told_in_one_line():
 
 def docs_status(break_it):
     with tempfile.TemporaryDirectory() as folder:
-        for name in ["docs", "lists", "crates", "compare", "hosts", "bench", "include"]:
+        for name in ["docs", "lists", "crates", "compare", "hosts", "bench", "include", "tests"]:
             if os.path.isdir(os.path.join(ROOT, name)):
                 shutil.copytree(os.path.join(ROOT, name), os.path.join(folder, name), ignore=shutil.ignore_patterns("target"))
         shutil.copy(os.path.join(ROOT, "README.md"), folder)
