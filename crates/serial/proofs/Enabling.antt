@@ -1,11 +1,12 @@
 -- What a write of IER is in the definition.
-use mathlib.Core.Path.{_≡_}
+use mathlib.Core.Path.{_≡_, sym, _∙_}
 use mathlib.Core.Bool.{Bool, not}
 use mathlib.Core.List.{List}
 use Prim.Native.Nat.{ℕ, _+_, _*_}
 use native.Mathlib.Omega.{arith}
 use lib.Dec.{eqb}
 use lib.ListN.{length, getD, set}
+use lib.Seq.{getD-set-other}
 use Rattle.interrupts.specs.Interrupts.{ierStored, enabling}
 use Rattle.interrupts.specs.Calls.{Tells}
 use Rattle.serial.specs.Port.{writeIer}
@@ -14,6 +15,10 @@ use Rattle.serial.specs.Calls.{Writes}
 use Rattle.serial.proofs.Leaves.{waits-is}
 use Rattle.serial.proofs.Registers.{one-stored, then-stored, enabled}
 use Rattle.serial.proofs.Answering.{registers-alone}
+
+-- IER is stored, and IIR is as it was.
+pub kept-iir : (regs : List ℕ) (ier : ℕ) {iir : ℕ} → iir ≡ getD regs 2 0 → iir ≡ getD (set regs 1 ier) 2 0
+kept-iir regs ier e = e ∙ sym (getD-set-other regs 1 2 ier 0 (λ x. omega arith))
 
 pub writes-ier : (regs pos ring : List ℕ) → length regs ≡ 16 → (v w : ℕ) → w ≡ ierStored v → {iir raises r : ℕ} {changes : Bool}
     → Tells (enabling w (getD regs 2 0) (not (eqb (getD pos 1 0) 0))) (getD regs 2 0) iir raises changes 2 → r ≡ 0x100_0000 * raises

@@ -1,5 +1,6 @@
 // IER.
 use crate::answer::ONE_RAISE;
+use crate::iir;
 use crate::memory;
 use crate::memory::COUNT;
 use crate::memory::IER;
@@ -19,6 +20,6 @@ pub fn write(regs: &mut Regs, pos: &Pos, value: u8) -> u32
     let ier = interrupts::ier_stored(value);
     let told = interrupts::enabling(ier, regs[IIR], pos[COUNT] != 0);
     regs[IER] = ier;
-    regs[IIR] = told.iir;
+    iir::store(regs, told.changes, told.iir);
     ONE_RAISE * told.raises
 }

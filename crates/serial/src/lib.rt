@@ -117,21 +117,21 @@ pub fn write(regs: &mut Regs, pos: &mut Pos, ring: &mut Ring, offset: u8, value:
     ensures { λ r. ⌜ Writes (λ p. writeOf p offset value) (now (regs .entry)) (now (pos .entry)) (now (ring .entry)) (now (regs .exit)) (now (pos .exit)) (now (ring .exit)) r ⌝ }
 {
     memory::regs_len(regs);
-    if offset == 0 {
+    if offset < 2 {
         if is_open(regs[LCR]) {
-            regs[DLL] = value;
-            return 0;
-        }
-        return transmitter::write_thr(regs, pos, ring, value);
-    }
-    match offset {
-        1 => {
-            if is_open(regs[LCR]) {
-                regs[DLM] = value;
+            if offset == 0 {
+                regs[DLL] = value;
                 return 0;
             }
-            return ier::write(regs, pos, value);
+            regs[DLM] = value;
+            return 0;
         }
+        if offset == 0 {
+            return transmitter::write_thr(regs, pos, ring, value);
+        }
+        return ier::write(regs, pos, value);
+    }
+    match offset {
         3 => {
             regs[LCR] = value;
             return 0;

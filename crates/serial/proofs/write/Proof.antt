@@ -1,7 +1,5 @@
 -- Each answer is a law of `Addressing` or `Sending`.
-use mathlib.Core.Path.{_≡_, sym, _∙_}
-use Prim.Native.Nat.{ℕ, _≤_}
-use native.Mathlib.Omega.{arith}
+use mathlib.Core.Path.{sym, _∙_}
 use Rattle.serial.specs.Layout.{portOf}
 use Rattle.serial.proofs.Addressing.{at-data, at-ier}
 use Rattle.serial.proofs.Sending.{stores-dll, stores-dlm, stores-lcr, stores-mcr, stores-scr, stores-nothing, transmits, enables}
@@ -23,62 +21,53 @@ element-write-regs c = search needs
 
 returns : tie.Need-returns
 unfolding portOf
-returns c = let a = c .before .before .before .before .before .before .args in stores-dll (a .regs .now) (a .pos .now) (a .ring .now) (c .before .before .before .before .regs-len .ensures) _ _ (sym (c .before .is-open .ensures) ∙ c .if2 .taken) (c .before .before .before .if1 .taken)
-
-write-thr-requires : tie.Need-write-thr-requires
-write-thr-requires c κs = search needs
-
-returns-2 : tie.Need-returns-2
-unfolding portOf
-returns-2 c = let a = c .before .before .before .before .before .before .before .before .before .before .args in transmits (a .regs .now) (a .pos .now) (a .ring .now) (a .offset) _ _ (at-data _ _ (sym (c .before .before .before .before .before .is-open .ensures) ∙ c .before .before .before .before .if2 .left) (c .before .before .before .before .before .before .before .if1 .taken)) (c .write-thr .ensures)
-
-element-copy-out-is-open-2 : tie.Need-element-copy-out-is-open-2
-element-copy-out-is-open-2 c = search needs
-
-is-open-requires-2 : tie.Need-is-open-requires-2
-is-open-requires-2 c κs = search needs
+returns c = let a = c .before .before .before .before .before .before .before .args in stores-dll (a .regs .now) (a .pos .now) (a .ring .now) (c .before .before .before .before .before .regs-len .ensures) _ _ (sym (c .before .before .is-open .ensures) ∙ c .before .if2 .taken) (c .if3 .taken)
 
 element-write-regs-2 : tie.Need-element-write-regs-2
 element-write-regs-2 c = search needs
 
+returns-2 : tie.Need-returns-2
+unfolding portOf
+returns-2 c = let a = c .before .before .before .before .before .before .before .args in stores-dlm (a .regs .now) (a .pos .now) (a .ring .now) (c .before .before .before .before .before .regs-len .ensures) _ _ (sym (c .before .before .is-open .ensures) ∙ c .before .if2 .taken) (c .before .before .before .before .if1 .taken) (c .if3 .left)
+
+write-thr-requires : tie.Need-write-thr-requires
+write-thr-requires c κs = search needs
+
 returns-3 : tie.Need-returns-3
 unfolding portOf
-returns-3 c = let a = c .before .before .before .before .before .before .before .args in let one = c .before .before .before .match .keys1 in stores-dlm (a .regs .now) (a .pos .now) (a .ring .now) (c .before .before .before .before .before .regs-len .ensures) _ _ (sym (c .before .is-open2 .ensures) ∙ c .if3 .taken) (omega (arith, one)) (λ z. omega (arith, one))
+returns-3 c = let a = c .before .before .before .before .before .before .before .before .before .before .before .args in transmits (a .regs .now) (a .pos .now) (a .ring .now) (a .offset) _ _ (at-data _ _ (sym (c .before .before .before .before .before .before .is-open .ensures) ∙ c .before .before .before .before .before .if2 .left) (c .before .before .before .before .if4 .taken)) (c .write-thr .ensures)
 
 write-requires : tie.Need-write-requires
 write-requires c κs = search needs
 
 returns-4 : tie.Need-returns-4
 unfolding portOf
-returns-4 c = let a = c .before .before .before .before .before .before .before .before .before .before .args in let one = c .before .before .before .before .before .before .match .keys1 in enables (a .regs .now) (a .pos .now) (a .ring .now) (a .offset) _ _ (at-ier _ _ (sym (c .before .before .before .before .is-open2 .ensures) ∙ c .before .before .before .if3 .left) (omega (arith, one)) (λ z. omega (arith, one))) (c .write .ensures _)
+returns-4 c = let a = c .before .before .before .before .before .before .before .before .before .before .args in enables (a .regs .now) (a .pos .now) (a .ring .now) (a .offset) _ _ (at-ier _ _ (sym (c .before .before .before .before .before .is-open .ensures) ∙ c .before .before .before .before .if2 .left) (c .before .before .before .before .before .before .before .if1 .taken) (c .before .before .before .if4 .left)) (c .write .ensures _)
 
 element-write-regs-3 : tie.Need-element-write-regs-3
 element-write-regs-3 c = search needs
 
 returns-5 : tie.Need-returns-5
 unfolding portOf
-returns-5 c = let a = c .before .before .before .before .args in stores-lcr (a .regs .now) (a .pos .now) (a .ring .now) (c .before .before .regs-len .ensures) _ _ (c .match .keys2)
+returns-5 c = let a = c .before .before .before .before .args in stores-lcr (a .regs .now) (a .pos .now) (a .ring .now) (c .before .before .regs-len .ensures) _ _ (c .match .keys1)
 
 element-write-regs-4 : tie.Need-element-write-regs-4
 element-write-regs-4 c = search needs
 
 returns-6 : tie.Need-returns-6
 unfolding portOf
-returns-6 c = let a = c .before .before .before .before .args in stores-mcr (a .regs .now) (a .pos .now) (a .ring .now) (c .before .before .regs-len .ensures) _ _ (c .match .keys3)
+returns-6 c = let a = c .before .before .before .before .args in stores-mcr (a .regs .now) (a .pos .now) (a .ring .now) (c .before .before .regs-len .ensures) _ _ (c .match .keys2)
 
 element-write-regs-5 : tie.Need-element-write-regs-5
 element-write-regs-5 c = search needs
 
 returns-7 : tie.Need-returns-7
 unfolding portOf
-returns-7 c = let a = c .before .before .before .before .args in stores-scr (a .regs .now) (a .pos .now) (a .ring .now) (c .before .before .regs-len .ensures) _ _ (c .match .keys4)
-
-from-two : (offset : ℕ) → (offset ≡ 0 → ⊥) → (offset ≡ 1 → ⊥) → 2 ≤ offset
-from-two offset a b = omega arith
+returns-7 c = let a = c .before .before .before .before .args in stores-scr (a .regs .now) (a .pos .now) (a .ring .now) (c .before .before .regs-len .ensures) _ _ (c .match .keys3)
 
 returns-8 : tie.Need-returns-8
 unfolding portOf
-returns-8 c = let a = c .before .before .before .before .args in let m = c .match .rest in stores-nothing (a .regs .now) (a .pos .now) (a .ring .now) (a .offset) _ (from-two _ (c .before .if1 .left) (m .0 .0 .0 .1)) (m .0 .0 .1) (m .0 .1) (m .1)
+returns-8 c = let a = c .before .before .before .before .args in let m = c .match .rest in stores-nothing (a .regs .now) (a .pos .now) (a .ring .now) (a .offset) _ (c .before .if1 .left) (m .0 .0 .1) (m .0 .1) (m .1)
 
 pub write-spec : {M : Type 1} → statement M
 write-spec =
@@ -89,11 +78,9 @@ write-spec =
     is-open-requires
     element-write-regs
     returns
-    write-thr-requires
-    returns-2
-    element-copy-out-is-open-2
-    is-open-requires-2
     element-write-regs-2
+    returns-2
+    write-thr-requires
     returns-3
     write-requires
     returns-4

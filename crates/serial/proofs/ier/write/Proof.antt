@@ -1,6 +1,6 @@
--- The answer is a law of `Enabling`.
+-- Each answer is a law of `Enabling`.
 use native.Mathlib.Omega.{arith}
-use Rattle.serial.proofs.Enabling.{writes-ier}
+use Rattle.serial.proofs.Enabling.{kept-iir, writes-ier}
 use borrow.Author.Needs.{needs}
 use Rattle.serial.proofs.ier.write.Statement.{statement}
 use Rattle.serial.proofs.ier.write.Tie as tie
@@ -23,16 +23,18 @@ enabling-requires c κs = search needs
 element-write-regs : tie.Need-element-write-regs
 element-write-regs c = search needs
 
-element-write-regs-2 : tie.Need-element-write-regs-2
-element-write-regs-2 c = search needs
+store-requires : tie.Need-store-requires
+store-requires c κs = λ e. kept-iir (c .before .before .before .before .before .before .before .args .regs .now) _ (c .before .enabling .ensures .stays e)
 
 mul-result : tie.Need-mul-result
 mul-result c = search needs
 
 returns : tie.Need-returns
 returns c =
-    let a = c .before .before .before .before .before .before .before .args in
-    λ ring. writes-ier (a .regs .now) (a .pos .now) ring (c .before .before .before .before .before .regs-len .ensures) (a .value) _ (c .before .before .before .before .ier-stored .ensures) (c .before .enabling .ensures) (omega arith)
+    let a = c .before .before .before .before .before .before .before .before .before .args in
+    λ ring.
+    rw (c .before .store .ensures)
+    (writes-ier (a .regs .now) (a .pos .now) ring (c .before .before .before .before .before .before .before .regs-len .ensures) (a .value) _ (c .before .before .before .before .before .before .ier-stored .ensures) (c .before .before .before .enabling .ensures) (omega arith))
 
 pub write-spec : {M : Type 1} → statement M
 write-spec =
@@ -44,6 +46,6 @@ write-spec =
     element-copy-out-enabling-2
     enabling-requires
     element-write-regs
-    element-write-regs-2
+    store-requires
     mul-result
     returns)
