@@ -75,7 +75,7 @@ module _ (p : Port) (v : ℕ) where
   -- Where the latch is the same and the device raises as the pin rises, the write agrees.
   same-chip : Latched (enables p transmitterEmpty) (isEnabled (ierStored v) transmitterEmpty) (marks p transmitterEmpty) → chipOf after ≡ next p v
   unfolding chipOf device.writeIer chip.writeRegister writeIer ierStored
-  same-chip t = rw (latched, ← t)
+  same-chip t = simp (latched, ← t)
 
   ier-agrees : Latched (enables p transmitterEmpty) (isEnabled (ierStored v) transmitterEmpty) (marks p transmitterEmpty)
       → (pin (chipOf p) ≡ false → pin (next p v) ≡ true → 0 < device.writeIer p v .raises) → WriteAgrees p IER v
