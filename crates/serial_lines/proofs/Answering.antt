@@ -16,8 +16,12 @@ use Rattle.ring.proofs.Laws.{queue-split}
 use Rattle.serial.proofs.Bounds.{memory-fits}
 use Rattle.serial_saved.specs.Saved.{savedOf}
 use Rattle.serial_saved.specs.Calls.{Saves}
-use Rattle.words.specs.Hex.{byteAt, bytesOf, areBytes, countOf, Gives}
-use Rattle.words.specs.Pattern.{fitsOf, beginsLike}
+use Rattle.serial_saved.proofs.Bringing.{same-port}
+use Rattle.serial_words.specs.Lines.{lineOf}
+use Rattle.serial_words.specs.Said.{portSays}
+use Rattle.serial_words.specs.declared.line.Access.{Access}
+use Rattle.serial_words.specs.declared.line.Line.{Line}
+use Rattle.words.specs.Hex.{bytesOf, areBytes, countOf, Gives}
 use Rattle.words.specs.Put.{Puts}
 use Rattle.words.specs.Text.{text}
 use Rattle.words.specs.declared.hex.Bytes.{Bytes}
@@ -32,16 +36,21 @@ use Rattle.serial_lines.specs.Answers.{
   DidInput,
   Brought,
   asks,
-  asksSaved,
+  asksBy,
+  asksKept,
+  asksPort,
   asksWith,
   givenIn,
-  keptIn,
   portIn,
+  read,
+  write,
   input,
+  showRoom,
+  showState,
+  save,
   restore,
   nothing,
   roomSays,
-  portSays,
 }
 
 -- What is ports, with the port in other memory.
@@ -50,7 +59,7 @@ holding ports regs pos ring = record { regs = regs; pos = pos; ring = ring; save
 
 -- ---- A line that asks for nothing, and one that restores a port
 
-unknown : (ports : Ports) {out out′ : List ℕ} {at r : ℕ} → Puts out at (text "?\n") out′ r → r ≤ at + 4096 → Answers nothing ports out at ports out′ r
+pub unknown : (ports : Ports) {out out′ : List ℕ} {at r : ℕ} → Puts out at (text "?\n") out′ r → r ≤ at + 4096 → Answers nothing ports out at ports out′ r
 unknown ports p h = record { reached = false; tells = tt; said = p; port = refl; kept = (refl, refl, refl); short = h }
 
 brought : (ports : Ports) {saved : Port} {spares regs′ pos′ ring′ out out′ : List ℕ} {at r : ℕ}
@@ -59,7 +68,7 @@ brought : (ports : Ports) {saved : Port} {spares regs′ pos′ ring′ out out�
 brought ports b h =
     record { reached = b .reached; tells = b .tells; said = b .did .says; port = b .did .holds; kept = (refl, refl, refl); short = h }
 
-entered : (ports : Ports) {bytes regs′ pos′ ring′ out out′ : List ℕ} {at r : ℕ}
+pub entered : (ports : Ports) {bytes regs′ pos′ ring′ out out′ : List ℕ} {at r : ℕ}
     → DidInput bytes (ports .regs) (ports .pos) (ports .ring) regs′ pos′ ring′ out at out′ r → r ≤ at + 4096
     → Answers (input bytes) ports out at (holding ports regs′ pos′ ring′) out′ r
 entered ports d h = record { reached = false; tells = tt; said = d .says; port = d .holds; kept = (refl, refl, refl); short = h }
@@ -104,17 +113,17 @@ module _ {digits bytes : List ℕ} {b : Bytes} (g : Gives digits bytes b) where
 
 module _ (ports : Ports) {n : ℕ} {out out′ : List ℕ} {at r : ℕ} (e : n ≡ ports .count) where
   pub none-kept : size < n → Puts out at (text "?\n") out′ r → r ≤ at + 4096
-      → Answers (cond (leb (ports .count) size) (restore (keptIn ports) (spareRegisters (ports .saved))) nothing) ports out at ports out′ r
+      → Answers (asksKept ports) ports out at ports out′ r
   none-kept l p h = rw (lt-leb (ports .count) size (rw (← e) l)) (unknown ports p h)
 
   pub some-kept : {regs′ pos′ ring′ : List ℕ} → n ≤ size
       → Brought (savedOf (ports .saved) (take (n - 0) (drop 0 (ports .waiting)))) (spareRegisters (ports .saved)) (ports .regs) (ports .pos) (ports .ring) regs′ pos′ ring′ out at out′ r → r ≤ at + 4096
-      → Answers (cond (leb (ports .count) size) (restore (keptIn ports) (spareRegisters (ports .saved))) nothing) ports out at (holding ports regs′ pos′ ring′) out′ r
+      → Answers (asksKept ports) ports out at (holding ports regs′ pos′ ring′) out′ r
   some-kept l b h =
       let z : n - 0 ≡ ports .count = omega arith in
       rw (le-leb (ports .count) size (rw (← e) l)) (brought ports (rw z at b) h)
 
--- ---- One line about saved states
+-- ---- The port is saved
 
 -- the first bytes, one by one, are those from the first place on
 none-from : (waiting : List ℕ) → queue places waiting 0 0 ≡ []
@@ -133,89 +142,50 @@ from-first waiting zero h l = none-from waiting
 from-first waiting (suc n) h l =
     one-from waiting n (omega arith) ∙ rw (from-first waiting n (omega arith) (omega arith)) (sym (take-suc waiting n 0 (omega arith)))
 
-module _ (line : List ℕ) (ports : Ports) {out out′ : List ℕ} {at r : ℕ} where
-  pub by-save : {saved′ waiting′ o₁ : List ℕ} {count′ n a : ℕ} → fitsOf (text "save") line ≡ true
-      → Saves (ports .regs) (ports .pos) (ports .ring) (ports .waiting) saved′ waiting′ count′ → length waiting′ ≡ places → n ≡ min count′ size → Puts out at (text "save") o₁ a
-      → Puts o₁ a (portSays (savedOf saved′ (queue places waiting′ 0 n))) out′ r → r ≤ at + 4096
-      → Answers (asksSaved ports line) ports out at (record { regs = ports .regs; pos = ports .pos; ring = ports .ring; saved = saved′; waiting = waiting′; count = count′ }) out′ r
-  unfolding asksSaved
-  by-save {saved′} {waiting′} {count′ = count′} {n = n} f s l e p q h =
+module _ (ports : Ports) {out out′ : List ℕ} {at r : ℕ} where
+  pub saves : {saved′ waiting′ o₁ : List ℕ} {count′ a : ℕ} → Saves (ports .regs) (ports .pos) (ports .ring) (ports .waiting) saved′ waiting′ count′
+      → length waiting′ ≡ places → Puts out at (text "save") o₁ a → Puts o₁ a (portSays (portOf saved′ (0 ∷ count′ ∷ []) waiting′)) out′ r → r ≤ at + 4096
+      → Answers save ports out at (record { regs = ports .regs; pos = ports .pos; ring = ports .ring; saved = saved′; waiting = waiting′; count = count′ }) out′ r
+  unfolding savedOf
+  saves {saved′} {waiting′} {count′ = count′} s l p q h =
       let few : count′ ≤ size = rw (s .number) (memory-fits (ports .regs) (ports .pos) (ports .ring)) in
-      let same : n ≡ count′ = omega arith in
-      let port : savedOf saved′ (queue places waiting′ 0 n) ≡ portIn ports = rw (same, from-first waiting′ count′ (omega arith) (omega (arith, l))) (s .holds) in
-      rw f (record { reached = false; tells = tt; said = rw (← port) (both p q); port = refl; kept = (few, s .holds); short = h })
-
-module _ (line : List ℕ) (ports : Ports) {out out′ : List ℕ} {at r : ℕ} (no-save : fitsOf (text "save") line ≡ false) where
-  pub by-kept : {ports′ : Ports} → fitsOf (text "restore") line ≡ true
-      → Answers (cond (leb (ports .count) size) (restore (keptIn ports) (spareRegisters (ports .saved))) nothing) ports out at ports′ out′ r → Answers (asksSaved ports line) ports out at ports′ out′ r
-  unfolding asksSaved
-  by-kept f b = rw (no-save, f) b
-
-module _ (line : List ℕ) (ports : Ports) {out out′ : List ℕ} {at r : ℕ} (no-save : fitsOf (text "save") line ≡ false) (no-kept : fitsOf (text "restore") line ≡ false) where
-  pub by-registers : (saved : List ℕ) {regs′ pos′ ring′ : List ℕ} → fitsOf (text "restore DD DD DD DD DD DD DD DD DD -") line ≡ true
-      → ((w : List ℕ) → savedOf saved w ≡ givenIn line w) → spareRegisters saved ≡ freshSpareRegisters → Brought (savedOf saved []) (spareRegisters saved) (ports .regs) (ports .pos) (ports .ring) regs′ pos′ ring′ out at out′ r → r ≤ at + 4096
-      → Answers (asksSaved ports line) ports out at (holding ports regs′ pos′ ring′) out′ r
-  unfolding asksSaved
-  by-registers saved f s z b h = rw (no-save, no-kept, f, ← s [], ← z) (brought ports b h)
-
-  module _ (no-registers : fitsOf (text "restore DD DD DD DD DD DD DD DD DD -") line ≡ false) where
-    pub by-given : {ports′ : Ports} → beginsLike (text "restore DD DD DD DD DD DD DD DD DD ") line ≡ true
-        → Answers (asksWith (drop 35 line) (λ w. restore (givenIn line w) freshSpareRegisters)) ports out at ports′ out′ r → Answers (asksSaved ports line) ports out at ports′ out′ r
-    unfolding asksSaved
-    by-given f b = rw (no-save, no-kept, no-registers, f) b
-
-    pub by-nothing : beginsLike (text "restore DD DD DD DD DD DD DD DD DD ") line ≡ false → Puts out at (text "?\n") out′ r → r ≤ at + 4096
-        → Answers (asksSaved ports line) ports out at ports out′ r
-    unfolding asksSaved
-    by-nothing f p h = rw (no-save, no-kept, no-registers, f) (unknown ports p h)
+      let same : min count′ size ≡ count′ = omega arith in
+      let bytes : queue places waiting′ 0 (min count′ size) ≡ take count′ waiting′ = rw same (from-first waiting′ count′ (omega arith) (omega (arith, l))) in
+      let port : portOf saved′ (0 ∷ count′ ∷ []) waiting′ ≡ portIn ports = same-port saved′ (0 ∷ count′ ∷ []) waiting′ (take count′ waiting′) bytes ∙ s .holds in
+      record { reached = false; tells = tt; said = rw (← port) (both p q); port = refl; kept = (few, s .holds); short = h }
 
 -- ---- One line
 
-module _ (line : List ℕ) (ports : Ports) {out out′ : List ℕ} {at r : ℕ} where
-  pub by-write : {offset value : ℕ} {regs′ pos′ ring′ : List ℕ} → fitsOf (text "w OO VV") line ≡ true → offset ≡ byteAt line 2 → value ≡ byteAt line 5
-      → DidWrite offset value (ports .regs) (ports .pos) (ports .ring) regs′ pos′ ring′ out at out′ r → r ≤ at + 4096
-      → Answers (asks ports line) ports out at (holding ports regs′ pos′ ring′) out′ r
-  unfolding asks
-  by-write f o v d h =
-      rw (f, ← o, ← v) (record { reached = false; tells = tt; said = d .says; port = d .holds; kept = (refl, refl, refl); short = h })
+pub by-line : (line : List ℕ) (ports : Ports) {l : Line} {ports′ : Ports} {out out′ : List ℕ} {at r : ℕ} {told : Line} → told ≡ lineOf line → told ≡ l
+    → Answers (asksBy l ports line) ports out at ports′ out′ r → Answers (asks ports line) ports out at ports′ out′ r
+by-line line ports e f a = rw (← e, f) a
 
-module _ (line : List ℕ) (ports : Ports) {out out′ : List ℕ} {at r : ℕ} (no-write : fitsOf (text "w OO VV") line ≡ false) where
-  pub by-read : {offset : ℕ} {regs′ pos′ : List ℕ} → fitsOf (text "r OO") line ≡ true → offset ≡ byteAt line 2
-      → DidRead offset (ports .regs) (ports .pos) (ports .ring) regs′ pos′ (ports .ring) out at out′ r → r ≤ at + 4096
-      → Answers (asks ports line) ports out at (holding ports regs′ pos′ (ports .ring)) out′ r
-  unfolding asks
-  by-read f o d h =
-      rw (no-write, f, ← o) (record { reached = false; tells = tt; said = d .says; port = d .holds; kept = (refl, refl, refl); short = h })
+module _ (ports : Ports) {out out′ : List ℕ} {at r : ℕ} where
+  pub written : {offset value : ℕ} {regs′ pos′ ring′ : List ℕ} → DidWrite offset value (ports .regs) (ports .pos) (ports .ring) regs′ pos′ ring′ out at out′ r → r ≤ at + 4096
+      → Answers (write offset value) ports out at (holding ports regs′ pos′ ring′) out′ r
+  written d h = record { reached = false; tells = tt; said = d .says; port = d .holds; kept = (refl, refl, refl); short = h }
 
-module _ (line : List ℕ) (ports : Ports) {out out′ : List ℕ} {at r : ℕ} (no-write : fitsOf (text "w OO VV") line ≡ false) (no-read : fitsOf (text "r OO") line ≡ false) where
-  pub by-no-input : {regs′ pos′ ring′ : List ℕ} → fitsOf (text "b") line ≡ true → DidInput [] (ports .regs) (ports .pos) (ports .ring) regs′ pos′ ring′ out at out′ r
-      → r ≤ at + 4096 → Answers (asks ports line) ports out at (holding ports regs′ pos′ ring′) out′ r
-  unfolding asks
-  by-no-input f d h = rw (no-write, no-read, f) (entered ports d h)
+  pub read-from : {offset : ℕ} {regs′ pos′ : List ℕ} → DidRead offset (ports .regs) (ports .pos) (ports .ring) regs′ pos′ (ports .ring) out at out′ r → r ≤ at + 4096
+      → Answers (read offset) ports out at (holding ports regs′ pos′ (ports .ring)) out′ r
+  read-from d h = record { reached = false; tells = tt; said = d .says; port = d .holds; kept = (refl, refl, refl); short = h }
 
-  module _ (no-empty : fitsOf (text "b") line ≡ false) where
-    pub by-input : {ports′ : Ports} → beginsLike (text "b ") line ≡ true → Answers (asksWith (drop 2 line) input) ports out at ports′ out′ r
-        → Answers (asks ports line) ports out at ports′ out′ r
-    unfolding asks
-    by-input f b = rw (no-write, no-read, no-empty, f) b
+  pub room-said : Puts out at (roomSays (roomOf (portIn ports))) out′ r → r ≤ at + 4096 → Answers showRoom ports out at ports out′ r
+  room-said p h = record { reached = false; tells = tt; said = p; port = refl; kept = (refl, refl, refl); short = h }
 
-    module _ (no-input : beginsLike (text "b ") line ≡ false) where
-      pub by-room : fitsOf (text "room") line ≡ true → Puts out at (roomSays (roomOf (portIn ports))) out′ r → r ≤ at + 4096
-          → Answers (asks ports line) ports out at ports out′ r
-      unfolding asks
-      by-room f p h =
-          rw (no-write, no-read, no-empty, no-input, f)
-          (record { reached = false; tells = tt; said = p; port = refl; kept = (refl, refl, refl); short = h })
+  pub state-said : Puts out at (text "state" ++ portSays (portIn ports)) out′ r → r ≤ at + 4096 → Answers showState ports out at ports out′ r
+  state-said p h = record { reached = false; tells = tt; said = p; port = refl; kept = (refl, refl, refl); short = h }
 
-      module _ (no-room : fitsOf (text "room") line ≡ false) where
-        pub by-state : fitsOf (text "state") line ≡ true → Puts out at (text "state" ++ portSays (portIn ports)) out′ r → r ≤ at + 4096
-            → Answers (asks ports line) ports out at ports out′ r
-        unfolding asks
-        by-state f p h =
-            rw (no-write, no-read, no-empty, no-input, no-room, f)
-            (record { reached = false; tells = tt; said = p; port = refl; kept = (refl, refl, refl); short = h })
+  pub registers-brought : (line saved : List ℕ) {regs′ pos′ ring′ : List ℕ} → ((w : List ℕ) → savedOf saved w ≡ givenIn line w) → spareRegisters saved ≡ freshSpareRegisters
+      → Brought (savedOf saved []) (spareRegisters saved) (ports .regs) (ports .pos) (ports .ring) regs′ pos′ ring′ out at out′ r → r ≤ at + 4096
+      → Answers (restore (givenIn line []) freshSpareRegisters) ports out at (holding ports regs′ pos′ ring′) out′ r
+  registers-brought line saved s z b h = rw (← s [], ← z) (brought ports b h)
 
-        pub by-saved : {ports′ : Ports} → fitsOf (text "state") line ≡ false → Answers (asksSaved ports line) ports out at ports′ out′ r
-            → Answers (asks ports line) ports out at ports′ out′ r
-        unfolding asks
-        by-saved f b = rw (no-write, no-read, no-empty, no-input, no-room, f) b
+pub by-access : (line : List ℕ) {access a : Access} {ports ports′ : Ports} {out out′ : List ℕ} {at r : ℕ} → access ≡ a
+    → Answers (asksPort a line) ports out at ports′ out′ r → Answers (asksPort access line) ports out at ports′ out′ r
+by-access line e a = rw e a
+
+-- the port as it lies, by its two positions
+pub state-of : (regs pos ring : List ℕ) {name out o₁ out′ : List ℕ} {at a r : ℕ} → Puts out at name o₁ a
+    → Puts o₁ a (portSays (portOf regs (getD pos 0 0 ∷ getD pos 1 0 ∷ []) ring)) out′ r → Puts out at (name ++ portSays (portOf regs pos ring)) out′ r
+unfolding portOf
+state-of regs pos ring p q = both p q

@@ -2,11 +2,10 @@
 use Prim.Native.Nat.{ℕ, _+_, _/_, _%_, _≤_}
 use mathlib.Core.Path.{_≡_}
 use mathlib.Core.Bool.{Bool, true, false, cond}
-use mathlib.Core.List.{List, [], _∷_, _++_}
+use mathlib.Core.List.{List, [], _++_}
 use mathlib.Core.Logic.{_↔_}
 use lib.Dec.{leb}
-use lib.ListN.{length, take, drop}
-use Rattle.common.specs.Lists.{some}
+use lib.ListN.{take, drop}
 use Rattle.serial.specs.Port.{Port, Out, Input, readOf, writeOf, inputOf, roomOf}
 use Rattle.serial.specs.Layout.{size, portOf, spareRegisters, freshSpareRegisters}
 use Rattle.serial.specs.Calls.{oneRaise, readWord}
@@ -14,9 +13,14 @@ use Rattle.runs.specs.Reachable.{Reachable}
 use Rattle.serial_saved.specs.Saved.{Restore, savedOf, restoreOf}
 use Rattle.words.specs.Decimal.{decimalOf}
 use Rattle.words.specs.Hex.{byteAt, digitsOf, bytesOf, areBytes}
-use Rattle.words.specs.Pattern.{fitsOf, beginsLike}
 use Rattle.words.specs.Put.{Puts}
 use Rattle.words.specs.Text.{text}
+use Rattle.serial_words.specs.Lines.{lineOf}
+use Rattle.serial_words.specs.Said.{raisesSay, sentSays, takenSays, portSays}
+use Rattle.serial_words.specs.declared.line.Line.{Line}
+use Rattle.serial_words.specs.declared.line.Line.the-variants.{Save, Kept, OfPort}
+use Rattle.serial_words.specs.declared.line.Access.{Access}
+use Rattle.serial_words.specs.declared.line.Access.the-variants.{Write, Read, InputNone, InputBytes, Room, State, RestoreNone, RestoreBytes, Unknown}
 use Rattle.serial_lines.specs.declared.Ports.{Ports}
 
 abbrev pub portsOf : List ℕ → List ℕ → List ℕ → List ℕ → List ℕ → ℕ → Ports
@@ -62,69 +66,42 @@ givenIn line bytes = record {
 }
 
 -- `restore` alone asks for the port that was saved last.
-unfoldable pub asksSaved : Ports → List ℕ → Asks
-asksSaved ports line =
-    cond (fitsOf (text "save") line) save
-    (cond (fitsOf (text "restore") line) (cond (leb (ports .count) size) (restore (keptIn ports) (spareRegisters (ports .saved))) nothing)
-    (cond (fitsOf (text "restore DD DD DD DD DD DD DD DD DD -") line) (restore (givenIn line []) freshSpareRegisters)
-    (cond (beginsLike (text "restore DD DD DD DD DD DD DD DD DD ") line) (asksWith (drop 35 line) (λ bytes. restore (givenIn line bytes) freshSpareRegisters)) nothing)))
+abbrev pub asksKept : Ports → Asks
+asksKept ports = cond (leb (ports .count) size) (restore (keptIn ports) (spareRegisters (ports .saved))) nothing
 
-unfoldable pub asks : Ports → List ℕ → Asks
-asks ports line =
-    cond (fitsOf (text "w OO VV") line) (write (byteAt line 2) (byteAt line 5))
-    (cond (fitsOf (text "r OO") line) (read (byteAt line 2))
-    (cond (fitsOf (text "b") line) (input [])
-    (cond (beginsLike (text "b ") line) (asksWith (drop 2 line) input)
-    (cond (fitsOf (text "room") line) showRoom
-    (cond (fitsOf (text "state") line) showState
-    (asksSaved ports line))))))
+abbrev pub asksPort : Access → List ℕ → Asks
+asksPort (Write offset value) line = write offset value
+asksPort (Read offset) line = read offset
+asksPort InputNone line = input []
+asksPort InputBytes line = asksWith (drop 2 line) input
+asksPort Room line = showRoom
+asksPort State line = showState
+asksPort RestoreNone line = restore (givenIn line []) freshSpareRegisters
+asksPort RestoreBytes line = asksWith (drop 35 line) (λ bytes. restore (givenIn line bytes) freshSpareRegisters)
+asksPort Unknown line = nothing
+
+abbrev pub asksBy : Line → Ports → List ℕ → Asks
+asksBy Save ports line = save
+asksBy Kept ports line = asksKept ports
+asksBy (OfPort access) ports line = asksPort access line
+
+abbrev pub asks : Ports → List ℕ → Asks
+asks ports line = asksBy (lineOf line) ports line
 
 -- ---- What is said
-
--- How often the interrupt is raised ends an answer.
-abbrev pub raisesSay : ℕ → List ℕ
-raisesSay raises = text " " ++ decimalOf raises ++ text "\n"
 
 -- After a read: the parts of the word that the call answers. Where the reply is a byte they are the reply and the raises (`read-plainly`).
 abbrev pub readSays : Out → List ℕ
 readSays o = text "r " ++ digitsOf (readWord o % 256) ++ raisesSay (readWord o / oneRaise)
 
--- After a write: the byte that was sent, or that there was none.
-abbrev pub sentSays : List ℕ → List ℕ
-sentSays [] = text "--"
-sentSays (byte ∷ rest) = digitsOf byte
-
 abbrev pub writeSays : Out → List ℕ
 writeSays o = text "w " ++ sentSays (o .sent) ++ raisesSay (o .raises)
-
--- After an input: how many bytes were taken, or that there was no room for one.
-abbrev pub takenSays : Bool → ℕ → List ℕ
-takenSays full taken = cond full (text "full") (decimalOf taken)
 
 abbrev pub inputSays : Input → List ℕ
 inputSays i = text "b " ++ takenSays (i .full) (i .taken) ++ raisesSay (i .raises)
 
 abbrev pub roomSays : ℕ → List ℕ
 roomSays room = text "room " ++ decimalOf room ++ text "\n"
-
--- A port: its registers, how many bytes wait, and they.
-abbrev pub nextByte : ℕ → List ℕ
-nextByte byte = text " " ++ digitsOf byte
-
-abbrev pub registersSay : Port → List ℕ
-registersSay p =
-    nextByte (p .settings .dll) ++ nextByte (p .settings .dlm) ++ nextByte (p .settings .ier) ++ nextByte (p .iir) ++ nextByte (p .settings .lcr) ++
-    nextByte (p .lsr) ++ nextByte (p .settings .mcr) ++ nextByte (p .msr) ++ nextByte (p .settings .scr)
-
-unfoldable pub bytesSay : List ℕ → List ℕ
-bytesSay [] = []
-bytesSay (byte ∷ bytes) = digitsOf byte ++ bytesSay bytes
-
-abbrev pub waitingSay : List ℕ → List ℕ
-waitingSay bytes = text " " ++ decimalOf (length bytes) ++ cond (some bytes) (text " " ++ bytesSay bytes ++ text "\n") (text " -\n")
-
-abbrev pub portSays : Port → List ℕ
-portSays p = registersSay p ++ waitingSay (p .waiting)
 
 abbrev pub restoreSays : Restore → Bool → List ℕ
 restoreSays o reached =
@@ -213,6 +190,10 @@ pub record Answers (asked : Asks) (ports : Ports) (out : List ℕ) (at : ℕ) (p
   pub kept : Keeps (isSave asked) ports ports′
   pub short : r ≤ at + 4096
 
--- A line was answered, given what it asks for.
-abbrev pub AnswersLine : (Ports → List ℕ → Asks) → List ℕ → Ports → List ℕ → ℕ → Ports → List ℕ → ℕ → Type 0
-AnswersLine asking line ports out at ports′ out′ r = Answers (asking ports line) ports out at ports′ out′ r
+-- What a line asks of the port alone was answered, whatever was saved.
+abbrev pub AnswersPort : Asks → List ℕ → List ℕ → List ℕ → List ℕ → List ℕ → List ℕ → List ℕ → ℕ → List ℕ → ℕ → Type 0
+AnswersPort asked regs pos ring regs′ pos′ ring′ out at out′ r =
+    (saved waiting : List ℕ) (count : ℕ) → Answers asked (portsOf regs pos ring saved waiting count) out at (portsOf regs′ pos′ ring′ saved waiting count) out′ r
+
+abbrev pub AnswersLine : List ℕ → Ports → List ℕ → ℕ → Ports → List ℕ → ℕ → Type 0
+AnswersLine line ports out at ports′ out′ r = Answers (asks ports line) ports out at ports′ out′ r

@@ -1,39 +1,31 @@
 // The lines that save the serial port and restore it.
-use crate::SIZE;
-use crate::capped;
-use crate::put_port;
-use crate::wide;
-use serial::answer::ONE_RAISE;
-use serial::answer::REACHABLE;
-use serial::answer::REFUSED;
 use serial::memory;
 use serial::memory::Pos;
 use serial::memory::Regs;
 use serial::memory::Ring;
+use serial_words::answer::put_brought;
+use serial_words::port::put_port;
 use words::Block;
-use words::decimal::put_decimal;
 use words::hex::Bytes;
 use words::hex::byte_at;
 use words::hex::bytes_from;
-use words::pattern::begins;
-use words::pattern::fits;
 use words::put::put;
 use words::put::unknown;
 ghost use Prim.Native.Nat.{ℕ, _+_, _≤_};
 ghost use mathlib.Core.Path.{_≡_};
-ghost use mathlib.Core.Bool.{cond};
 ghost use mathlib.Core.List.{List};
-ghost use lib.Dec.{leb};
-ghost use lib.ListN.{take, drop};
-ghost use Rattle.serial.specs.Layout.{size, spareRegisters, freshSpareRegisters};
+ghost use lib.ListN.{drop};
+ghost use Rattle.serial.specs.Layout.{spareRegisters, freshSpareRegisters};
 ghost use Rattle.serial_saved.specs.Saved.{savedOf};
-ghost use Rattle.serial_lines.specs.Answers.{Answers, AnswersLine, Brought, portsOf, asksSaved, asksWith, givenIn, restore, nothing};
+ghost use Rattle.serial_lines.specs.Answers.{Answers, AnswersPort, Brought, portsOf, asksKept, asksWith, givenIn, restore, save};
 
-pub fn answer(
-    line: &[u8],
-    regs: &mut Regs,
-    pos: &mut Pos,
-    ring: &mut Ring,
+// As many bytes may wait.
+const SIZE: usize = memory::SIZE as usize;
+
+pub fn save(
+    regs: &Regs,
+    pos: &Pos,
+    ring: &Ring,
     saved: &mut Regs,
     waiting: &mut Ring,
     count: &mut u32,
@@ -41,30 +33,24 @@ pub fn answer(
     at: usize,
 ) -> usize
     requires { ⌜ at + 4096 ≤ 65536 ⌝ }
-    ensures { λ r. ⌜ AnswersLine asksSaved (now (line .entry)) (portsOf (now (regs .entry)) (now (pos .entry)) (now (ring .entry)) (now (saved .entry)) (now (waiting .entry)) (now (count .entry))) (now (out .entry)) at (portsOf (now (regs .exit)) (now (pos .exit)) (now (ring .exit)) (now (saved .exit)) (now (waiting .exit)) (now (count .exit))) (now (out .exit)) r ⌝ }
-    ensures { λ r. ⌜ r ≤ at + 4096 ⌝ }
+    ensures { λ r. ⌜
+        Answers save
+        (portsOf (now (regs .entry)) (now (pos .entry)) (now (ring .entry))
+        (now (saved .entry)) (now (waiting .entry)) (now (count .entry)))
+        (now (out .entry)) at
+        (portsOf (now (regs .entry)) (now (pos .entry)) (now (ring .entry))
+        (now (saved .exit)) (now (waiting .exit)) (now (count .exit)))
+        (now (out .exit)) r
+        ⌝ }
 {
-    if fits(line, b"save") {
-        *count = serial_saved::save(regs, pos, ring, saved, waiting);
-        memory::ring_len(waiting);
-        let a = put(out, at, b"save");
-        return put_port(out, a, saved, 0, capped(*count), waiting);
-    }
-    if fits(line, b"restore") {
-        return restore_kept(regs, pos, ring, saved, waiting, *count, out, at);
-    }
-    if fits(line, b"restore DD DD DD DD DD DD DD DD DD -") {
-        let given = regs_in(line);
-        return restore(regs, pos, ring, &given, b"", out, at);
-    }
-    if begins(line, b"restore DD DD DD DD DD DD DD DD DD ") {
-        return restore_given(line, regs, pos, ring, out, at);
-    }
-    unknown(out, at)
+    *count = serial_saved::save(regs, pos, ring, saved, waiting);
+    memory::ring_len(waiting);
+    let a = put(out, at, b"save");
+    put_port(out, a, saved, 0, *count, waiting)
 }
 
 // `restore`, of the port that was saved last, if one was.
-fn restore_kept(
+pub fn restore_kept(
     regs: &mut Regs,
     pos: &mut Pos,
     ring: &mut Ring,
@@ -75,8 +61,12 @@ fn restore_kept(
     at: usize,
 ) -> usize
     requires { ⌜ at + 4096 ≤ 65536 ⌝ }
-    ensures { λ r. ⌜ Answers (cond (leb count size) (restore (savedOf (now (saved .entry)) (take count (now (waiting .entry)))) (spareRegisters (now (saved .entry)))) nothing) (portsOf (now (regs .entry)) (now (pos .entry)) (now (ring .entry)) (now (saved .entry)) (now (waiting .entry)) count) (now (out .entry)) at (portsOf (now (regs .exit)) (now (pos .exit)) (now (ring .exit)) (now (saved .entry)) (now (waiting .entry)) count) (now (out .exit)) r ⌝ }
-    ensures { λ r. ⌜ r ≤ at + 4096 ⌝ }
+    ensures { λ r. ⌜
+        (let ports = portsOf (now (regs .entry)) (now (pos .entry)) (now (ring .entry)) (now (saved .entry)) (now (waiting .entry)) count in
+        Answers (asksKept ports) ports (now (out .entry)) at
+        (portsOf (now (regs .exit)) (now (pos .exit)) (now (ring .exit)) (now (saved .entry)) (now (waiting .entry)) count)
+        (now (out .exit)) r)
+        ⌝ }
 {
     let n = wide(count);
     if n > SIZE {
@@ -87,7 +77,7 @@ fn restore_kept(
 }
 
 // `restore DL DH IER IIR LCR LSR MCR MSR SCR HH..`, with one byte or more.
-fn restore_given(
+pub fn restore_given(
     line: &[u8],
     regs: &mut Regs,
     pos: &mut Pos,
@@ -96,8 +86,12 @@ fn restore_given(
     at: usize,
 ) -> usize
     requires { ⌜ at + 4096 ≤ 65536 ⌝ }
-    ensures { λ r. ⌜ ((saved waiting : List ℕ) (count : ℕ) → Answers (asksWith (drop 35 (now (line .entry))) (λ bytes. restore (givenIn (now (line .entry)) bytes) freshSpareRegisters)) (portsOf (now (regs .entry)) (now (pos .entry)) (now (ring .entry)) saved waiting count) (now (out .entry)) at (portsOf (now (regs .exit)) (now (pos .exit)) (now (ring .exit)) saved waiting count) (now (out .exit)) r) ⌝ }
-    ensures { λ r. ⌜ r ≤ at + 4096 ⌝ }
+    ensures { λ r. ⌜
+        AnswersPort
+        (asksWith (drop 35 (now (line .entry))) (λ bytes. restore (givenIn (now (line .entry)) bytes) freshSpareRegisters))
+        (now (regs .entry)) (now (pos .entry)) (now (ring .entry))
+        (now (regs .exit)) (now (pos .exit)) (now (ring .exit)) (now (out .entry)) at (now (out .exit)) r
+        ⌝ }
 {
     let mut bytes = io::buffer();
     let Bytes::Are(count) = bytes_from(line, 35, &mut bytes) else {
@@ -108,7 +102,7 @@ fn restore_given(
 }
 
 // The registers of such a line, in the order in which they lie in memory; the spare ones are 0.
-fn regs_in(line: &[u8]) -> Regs
+pub fn regs_in(line: &[u8]) -> Regs
     ensures { λ r. ⌜ ((waiting : List ℕ) → savedOf r waiting ≡ givenIn (now (line .entry)) waiting) ⌝ }
     ensures { λ r. ⌜ spareRegisters r ≡ freshSpareRegisters ⌝ }
 {
@@ -132,7 +126,7 @@ fn regs_in(line: &[u8]) -> Regs
     ]
 }
 
-fn restore(
+pub fn restore(
     regs: &mut Regs,
     pos: &mut Pos,
     ring: &mut Ring,
@@ -142,17 +136,19 @@ fn restore(
     at: usize,
 ) -> usize
     requires { ⌜ at + 4096 ≤ 65536 ⌝ }
-    ensures { λ r. ⌜ Brought (savedOf (now (saved .entry)) (now (waiting .entry))) (spareRegisters (now (saved .entry))) (now (regs .entry)) (now (pos .entry)) (now (ring .entry)) (now (regs .exit)) (now (pos .exit)) (now (ring .exit)) (now (out .entry)) at (now (out .exit)) r ⌝ }
+    ensures { λ r. ⌜
+        Brought (savedOf (now (saved .entry)) (now (waiting .entry))) (spareRegisters (now (saved .entry)))
+        (now (regs .entry)) (now (pos .entry)) (now (ring .entry))
+        (now (regs .exit)) (now (pos .exit)) (now (ring .exit)) (now (out .entry)) at (now (out .exit)) r
+        ⌝ }
     ensures { λ r. ⌜ r ≤ at + 4096 ⌝ }
 {
     let brought = serial_saved::restore(regs, pos, ring, saved, waiting);
-    if brought == REFUSED {
-        return put(out, at, b"restore full\n");
-    }
-    let a = put(out, at, b"restore ");
-    let b = put_decimal(out, a, brought / ONE_RAISE);
-    if brought / REACHABLE % 2 == 1 {
-        return put(out, b, b" reached\n");
-    }
-    put(out, b, b" unreached\n")
+    put_brought(out, at, brought)
+}
+
+fn wide(x: u32) -> usize
+    ensures { λ r. ⌜ r ≡ x ⌝ }
+{
+    x as usize
 }

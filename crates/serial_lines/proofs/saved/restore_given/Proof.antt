@@ -26,7 +26,7 @@ unknown-requires : tie.Need-unknown-requires
 unknown-requires c κs = search needs
 
 returns : tie.Need-returns
-returns c = (λ saved waiting count. bad-bytes (c .before .before .before .before .bytes-from .ensures .0) _ (λ bytes. restore (givenIn (c .before .before .before .before .before .before .before .before .args .line .now) bytes) freshSpareRegisters) (c .before .before .enum-told .given .1) (c .unknown .ensures) (search needs), search needs)
+returns c = λ saved waiting count. bad-bytes (c .before .before .before .before .bytes-from .ensures .0) _ (λ bytes. restore (givenIn (c .before .before .before .before .before .before .before .before .args .line .now) bytes) freshSpareRegisters) (c .before .before .enum-told .given .1) (c .unknown .ensures) (search needs)
 
 regs-in-requires : tie.Need-regs-in-requires
 regs-in-requires c κs = search needs
@@ -43,7 +43,7 @@ restore-requires : tie.Need-restore-requires
 restore-requires c κs = search needs
 
 returns-2 : tie.Need-returns-2
-returns-2 c = (λ saved waiting count. given-bytes (c .before .before .before .before .before .before .before .before .before .before .before .bytes-from .ensures .0) _ _ _ (c .before .before .before .before .before .before .before .before .before .count .given .1) (c .before .before .before .before .before .before .before .regs-in .ensures .0) (c .before .before .before .before .before .before .before .regs-in .ensures .1) (c .restore .ensures .0) (search needs), search needs)
+returns-2 c = λ saved waiting count. given-bytes (c .before .before .before .before .before .before .before .before .before .before .before .bytes-from .ensures .0) _ _ _ (c .before .before .before .before .before .before .before .before .before .count .given .1) (c .before .before .before .before .before .before .before .regs-in .ensures .0) (c .before .before .before .before .before .before .before .regs-in .ensures .1) (c .restore .ensures .0) (search needs)
 
 pub restore-given-spec : {M : Type 1} → statement M
 restore-given-spec =

@@ -11,7 +11,7 @@ unknown-requires : tie.Need-unknown-requires
 unknown-requires c κs = search needs
 
 returns : tie.Need-returns
-returns c = (none-kept _ (c .before .before .before .wide .ensures) (c .before .before .if1 .taken) (c .unknown .ensures) (search needs), search needs)
+returns c = none-kept _ (c .before .before .before .wide .ensures) (c .before .before .if1 .taken) (c .unknown .ensures) (search needs)
 
 sub-restore : tie.Need-sub-restore
 sub-restore c = search needs
@@ -26,7 +26,7 @@ restore-requires : tie.Need-restore-requires
 restore-requires c κs = search needs
 
 returns-2 : tie.Need-returns-2
-returns-2 c = (some-kept _ (c .before .before .before .before .before .before .before .before .wide .ensures) (c .before .before .before .before .before .before .before .if1 .left) (c .restore .ensures .0) (search needs), search needs)
+returns-2 c = some-kept _ (c .before .before .before .before .before .before .before .before .wide .ensures) (c .before .before .before .before .before .before .before .if1 .left) (c .restore .ensures .0) (search needs)
 
 pub restore-kept-spec : {M : Type 1} → statement M
 restore-kept-spec =

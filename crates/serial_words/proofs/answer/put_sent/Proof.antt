@@ -1,0 +1,29 @@
+-- Each answer is a law of `Saying`.
+use Rattle.serial_words.proofs.Saying.{none-sent, one-sent}
+use native.Mathlib.Omega.{arith}
+use borrow.Author.Needs.{needs}
+use Rattle.serial_words.proofs.answer.put_sent.Statement.{statement}
+use Rattle.serial_words.proofs.answer.put_sent.Tie as tie
+
+slice-aggregate-put : tie.Need-slice-aggregate-put
+slice-aggregate-put c = search needs
+
+put-requires : tie.Need-put-requires
+put-requires c κs = search needs
+
+returns : tie.Need-returns
+returns c = (none-sent (c .before .before .before .before .args .sent) (omega arith) (c .put .ensures), search needs)
+
+cast-put-byte : tie.Need-cast-put-byte
+cast-put-byte c = search needs
+
+put-byte-requires : tie.Need-put-byte-requires
+put-byte-requires c κs = search needs
+
+returns-2 : tie.Need-returns-2
+returns-2 c = (one-sent (c .before .before .before .args .sent) (omega arith) (c .put-byte .ensures .0), search needs)
+
+pub put-sent-spec : {M : Type 1} → statement M
+put-sent-spec =
+    tie.close
+    (tie.spec slice-aggregate-put put-requires returns cast-put-byte put-byte-requires returns-2)
