@@ -138,7 +138,10 @@ fn difference(value: u32, now: u32) -> u64
 
 // A valid write that changes the load register, and how far the clock is ahead.
 fn adjust(clock: &mut Clock, load: u32, ahead: u64) -> u32
-    ensures { λ r. ⌜ Writes (becomes (withLr (clockOf (now (clock .entry))) load (signed ahead))) (now (clock .entry)) (now (clock .exit)) r ⌝ }
+    ensures { λ r. ⌜
+        Writes (becomes (withLr (clockOf (now (clock .entry))) load (signed ahead))) (now (clock .entry))
+        (now (clock .exit)) r
+        ⌝ }
 {
     eight_words(clock);
     clock[LOAD] = load;
@@ -229,7 +232,10 @@ pub fn read(clock: &Clock, offset: u16, time: u64, bytes: &mut [u8; 4]) -> u32
 
 // The guest writes `bytes` at `offset` while the host's clock says `time`, in seconds. REFUSED: nothing changed.
 pub fn write(clock: &mut Clock, offset: u16, time: u64, bytes: &[u8; 4]) -> u32
-    ensures { λ r. ⌜ Writes (writeOf (clockOf (now (clock .entry))) time offset (valueOf (now (bytes .entry)))) (now (clock .entry)) (now (clock .exit)) r ⌝ }
+    ensures { λ r. ⌜
+        Writes (writeOf (clockOf (now (clock .entry))) time offset (valueOf (now (bytes .entry)))) (now (clock .entry))
+        (now (clock .exit)) r
+        ⌝ }
 {
     eight_words(clock);
     let value = value_of(bytes);

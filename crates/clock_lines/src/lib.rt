@@ -23,7 +23,8 @@ ghost use Rattle.words.specs.Decimal.{numberOf};
 ghost use Rattle.words.specs.Hex.{wordDigits};
 ghost use Rattle.words.specs.Put.{Puts};
 ghost use Rattle.words.specs.Text.{text};
-ghost use Rattle.clock_lines.specs.Answers.{Answers, asks, asksTime, read, write, showState, offsetIn, bytesIn, fourDigits, readSaid, writeSaid, stateSays};
+ghost use Rattle.clock_lines.specs.Answers.{Answers, asks, asksTime, read, write, showState, offsetIn, bytesIn};
+ghost use Rattle.clock_lines.specs.Answers.{fourDigits, readSaid, writeSaid, stateSays};
 
 // The clock and the host's time, and the clock that was saved last, if `keeps` says that one was.
 pub struct Clocks {

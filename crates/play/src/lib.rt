@@ -60,7 +60,11 @@ fn play_one(
     b: u8,
     bytes: &[u8],
 ) -> u32
-    ensures { λ r. ⌜ Does (portOf (now (regs .entry)) (now (pos .entry)) (now (ring .entry))) (opOf kind a b (now (bytes .entry))) (portOf (now (regs .exit)) (now (pos .exit)) (now (ring .exit))) r ⌝ }
+    ensures { λ r. ⌜
+        Does (portOf (now (regs .entry)) (now (pos .entry)) (now (ring .entry)))
+        (opOf kind a b (now (bytes .entry)))
+        (portOf (now (regs .exit)) (now (pos .exit)) (now (ring .exit))) r
+        ⌝ }
     ensures { λ r. ⌜ SparesKept (now (regs .entry)) (now (pos .entry)) (now (regs .exit)) (now (pos .exit)) ⌝ }
 {
     match kind {
@@ -89,7 +93,10 @@ pub fn play(
     inputs: &[u8],
     answers: &mut [u32],
 ) -> bool
-    ensures { λ r. ⌜ Plays (now (regs .entry)) (now (pos .entry)) (now (ring .entry)) (now (ops .entry)) (now (inputs .entry)) (now (answers .entry)) (now (regs .exit)) (now (pos .exit)) (now (ring .exit)) (now (answers .exit)) r ⌝ }
+    ensures { λ r. ⌜
+        Plays (now (regs .entry)) (now (pos .entry)) (now (ring .entry)) (now (ops .entry)) (now (inputs .entry)) (now (answers .entry))
+        (now (regs .exit)) (now (pos .exit)) (now (ring .exit)) (now (answers .exit)) r
+        ⌝ }
 {
     if !is_run(ops, inputs) {
         return false;

@@ -1,5 +1,5 @@
-// A saved serial port, its registers and its waiting bytes, as a form of bytes, and back. Nothing of the caller's is trusted: any bytes are read or
-// refused, and a refusal changes nothing.
+// A saved serial port, its registers and its waiting bytes, as a form of bytes, and back. Nothing of the caller's is trusted: any
+// bytes are read or refused, and a refusal changes nothing.
 use serial::memory;
 use serial::memory::Regs;
 use serial::memory::Ring;
@@ -113,7 +113,10 @@ pub fn encode(saved: &Regs, waiting: &[u8], form: &mut [u8]) -> u32
 
 // Behind the number n bytes wait.
 fn decode_behind(n: usize, form: &[u8], saved: &mut Regs, waiting: &mut Ring) -> u32
-    ensures { λ r. ⌜ Decodes (readBehind n (now (form .entry))) (now (saved .entry)) (now (waiting .entry)) (now (saved .exit)) (now (waiting .exit)) r ⌝ }
+    ensures { λ r. ⌜
+        Decodes (readBehind n (now (form .entry)))
+        (now (saved .entry)) (now (waiting .entry)) (now (saved .exit)) (now (waiting .exit)) r
+        ⌝ }
 {
     if SIZE < n {
         return TOO_MANY;
@@ -135,7 +138,10 @@ fn decode_behind(n: usize, form: &[u8], saved: &mut Regs, waiting: &mut Ring) ->
 }
 
 fn decode_version_2(form: &[u8], saved: &mut Regs, waiting: &mut Ring) -> u32
-    ensures { λ r. ⌜ Decodes (readVersion2 (now (form .entry))) (now (saved .entry)) (now (waiting .entry)) (now (saved .exit)) (now (waiting .exit)) r ⌝ }
+    ensures { λ r. ⌜
+        Decodes (readVersion2 (now (form .entry)))
+        (now (saved .entry)) (now (waiting .entry)) (now (saved .exit)) (now (waiting .exit)) r
+        ⌝ }
 {
     if form.len() < WAITING {
         return TOO_SHORT;
@@ -145,7 +151,10 @@ fn decode_version_2(form: &[u8], saved: &mut Regs, waiting: &mut Ring) -> u32
 
 // Answers how many bytes wait, or why the form is refused; then nothing is written.
 pub fn decode(form: &[u8], saved: &mut Regs, waiting: &mut Ring) -> u32
-    ensures { λ r. ⌜ Decodes (readForm (now (form .entry))) (now (saved .entry)) (now (waiting .entry)) (now (saved .exit)) (now (waiting .exit)) r ⌝ }
+    ensures { λ r. ⌜
+        Decodes (readForm (now (form .entry)))
+        (now (saved .entry)) (now (waiting .entry)) (now (saved .exit)) (now (waiting .exit)) r
+        ⌝ }
 {
     if form.len() < REGISTERS {
         return TOO_SHORT;

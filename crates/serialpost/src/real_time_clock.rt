@@ -34,7 +34,10 @@ pub extern "C" fn serialpost_raw_clock_write(
     time: u64,
     bytes: &[u8; 4],
 ) -> u32
-    ensures { λ r. ⌜ Writes (writeOf (clockOf (now (clock .entry))) time offset (valueOf (now (bytes .entry)))) (now (clock .entry)) (now (clock .exit)) r ⌝ }
+    ensures { λ r. ⌜
+        Writes (writeOf (clockOf (now (clock .entry))) time offset (valueOf (now (bytes .entry)))) (now (clock .entry))
+        (now (clock .exit)) r
+        ⌝ }
 {
     clock::write(clock, offset, time, bytes)
 }

@@ -23,7 +23,10 @@ pub extern "C" fn serialpost_raw_serial_read(
     ring: &Ring,
     offset: u8,
 ) -> u32
-    ensures { λ r. ⌜ Reads (λ p. readOf p offset) (now (regs .entry)) (now (pos .entry)) (now (ring .entry)) (now (regs .exit)) (now (pos .exit)) r ⌝ }
+    ensures { λ r. ⌜
+        Reads (λ p. readOf p offset)
+        (now (regs .entry)) (now (pos .entry)) (now (ring .entry)) (now (regs .exit)) (now (pos .exit)) r
+        ⌝ }
 {
     serial::read(regs, pos, ring, offset)
 }
@@ -36,7 +39,10 @@ pub extern "C" fn serialpost_raw_serial_write(
     offset: u8,
     value: u8,
 ) -> u32
-    ensures { λ r. ⌜ Writes (λ p. writeOf p offset value) (now (regs .entry)) (now (pos .entry)) (now (ring .entry)) (now (regs .exit)) (now (pos .exit)) (now (ring .exit)) r ⌝ }
+    ensures { λ r. ⌜
+        Writes (λ p. writeOf p offset value)
+        (now (regs .entry)) (now (pos .entry)) (now (ring .entry)) (now (regs .exit)) (now (pos .exit)) (now (ring .exit)) r
+        ⌝ }
 {
     serial::write(regs, pos, ring, offset, value)
 }
@@ -48,7 +54,10 @@ pub extern "C" fn serialpost_raw_serial_input(
     ring: &mut Ring,
     input: &[u8],
 ) -> u32
-    ensures { λ r. ⌜ TakesInput (λ p. inputOf p (now (input .entry))) (now (regs .entry)) (now (pos .entry)) (now (ring .entry)) (now (regs .exit)) (now (pos .exit)) (now (ring .exit)) r ⌝ }
+    ensures { λ r. ⌜
+        TakesInput (λ p. inputOf p (now (input .entry)))
+        (now (regs .entry)) (now (pos .entry)) (now (ring .entry)) (now (regs .exit)) (now (pos .exit)) (now (ring .exit)) r
+        ⌝ }
 {
     serial::input(regs, pos, ring, input)
 }
@@ -69,7 +78,10 @@ pub extern "C" fn serialpost_raw_serial_play(
     inputs: &[u8],
     answers: &mut [u32],
 ) -> bool
-    ensures { λ r. ⌜ Plays (now (regs .entry)) (now (pos .entry)) (now (ring .entry)) (now (ops .entry)) (now (inputs .entry)) (now (answers .entry)) (now (regs .exit)) (now (pos .exit)) (now (ring .exit)) (now (answers .exit)) r ⌝ }
+    ensures { λ r. ⌜
+        Plays (now (regs .entry)) (now (pos .entry)) (now (ring .entry)) (now (ops .entry)) (now (inputs .entry)) (now (answers .entry))
+        (now (regs .exit)) (now (pos .exit)) (now (ring .exit)) (now (answers .exit)) r
+        ⌝ }
 {
     play::play(regs, pos, ring, ops, inputs, answers)
 }
@@ -82,7 +94,10 @@ pub extern "C" fn serialpost_raw_serial_save(
     saved: &mut Regs,
     waiting: &mut Ring,
 ) -> u32
-    ensures { λ r. ⌜ Saves (now (regs .entry)) (now (pos .entry)) (now (ring .entry)) (now (waiting .entry)) (now (saved .exit)) (now (waiting .exit)) r ⌝ }
+    ensures { λ r. ⌜
+        Saves (now (regs .entry)) (now (pos .entry)) (now (ring .entry)) (now (waiting .entry))
+        (now (saved .exit)) (now (waiting .exit)) r
+        ⌝ }
 {
     serial_saved::save(regs, pos, ring, saved, waiting)
 }
@@ -95,7 +110,11 @@ pub extern "C" fn serialpost_raw_serial_restore(
     saved: &Regs,
     waiting: &[u8],
 ) -> u32
-    ensures { λ r. ⌜ Restores (now (regs .entry)) (now (pos .entry)) (now (ring .entry)) (now (saved .entry)) (now (waiting .entry)) (now (regs .exit)) (now (pos .exit)) (now (ring .exit)) r ⌝ }
+    ensures { λ r. ⌜
+        Restores
+        (now (regs .entry)) (now (pos .entry)) (now (ring .entry)) (now (saved .entry)) (now (waiting .entry))
+        (now (regs .exit)) (now (pos .exit)) (now (ring .exit)) r
+        ⌝ }
 {
     serial_saved::restore(regs, pos, ring, saved, waiting)
 }
@@ -113,7 +132,10 @@ pub extern "C" fn serialpost_raw_serial_decode(
     saved: &mut Regs,
     waiting: &mut Ring,
 ) -> u32
-    ensures { λ r. ⌜ Decodes (readForm (now (form .entry))) (now (saved .entry)) (now (waiting .entry)) (now (saved .exit)) (now (waiting .exit)) r ⌝ }
+    ensures { λ r. ⌜
+        Decodes (readForm (now (form .entry)))
+        (now (saved .entry)) (now (waiting .entry)) (now (saved .exit)) (now (waiting .exit)) r
+        ⌝ }
 {
     serial_form::decode(form, saved, waiting)
 }
