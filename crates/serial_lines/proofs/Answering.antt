@@ -6,7 +6,6 @@ use mathlib.Core.List.{List, [], _∷_, _++_}
 use native.Mathlib.Numerals.{add-one}
 use native.Mathlib.Omega.{arith}
 use borrow.Author.Tests.{le-leb, lt-leb}
-use lib.Dec.{leb}
 use lib.ListN.{length, getD, take, drop}
 use lib.Seq.{take-suc}
 use Rattle.serial.specs.Port.{Port, roomOf}
@@ -17,6 +16,7 @@ use Rattle.serial.proofs.Bounds.{memory-fits}
 use Rattle.serial_saved.specs.Saved.{savedOf}
 use Rattle.serial_saved.specs.Calls.{Saves}
 use Rattle.serial_saved.proofs.Bringing.{same-port}
+use Rattle.serial_access.specs.Accesses.{DidRead, DidWrite, DidInput, roomSays}
 use Rattle.serial_words.specs.Lines.{lineOf}
 use Rattle.serial_words.specs.Said.{portSays}
 use Rattle.serial_words.specs.declared.line.Access.{Access}
@@ -31,9 +31,6 @@ use Rattle.serial_lines.specs.declared.Ports.{Ports}
 use Rattle.serial_lines.specs.Answers.{
   Asks,
   Answers,
-  DidRead,
-  DidWrite,
-  DidInput,
   Brought,
   asks,
   asksBy,
@@ -50,7 +47,6 @@ use Rattle.serial_lines.specs.Answers.{
   save,
   restore,
   nothing,
-  roomSays,
 }
 
 -- What is ports, with the port in other memory.
@@ -183,9 +179,3 @@ module _ (ports : Ports) {out out′ : List ℕ} {at r : ℕ} where
 pub by-access : (line : List ℕ) {access a : Access} {ports ports′ : Ports} {out out′ : List ℕ} {at r : ℕ} → access ≡ a
     → Answers (asksPort a line) ports out at ports′ out′ r → Answers (asksPort access line) ports out at ports′ out′ r
 by-access line e a = rw e a
-
--- the port as it lies, by its two positions
-pub state-of : (regs pos ring : List ℕ) {name out o₁ out′ : List ℕ} {at a r : ℕ} → Puts out at name o₁ a
-    → Puts o₁ a (portSays (portOf regs (getD pos 0 0 ∷ getD pos 1 0 ∷ []) ring)) out′ r → Puts out at (name ++ portSays (portOf regs pos ring)) out′ r
-unfolding portOf
-state-of regs pos ring p q = both p q

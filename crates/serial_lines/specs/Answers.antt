@@ -1,22 +1,22 @@
 -- The serial port's lines and their answers.
-use Prim.Native.Nat.{ℕ, _+_, _/_, _%_, _≤_}
+use Prim.Native.Nat.{ℕ, _+_, _≤_}
 use mathlib.Core.Path.{_≡_}
 use mathlib.Core.Bool.{Bool, true, false, cond}
 use mathlib.Core.List.{List, [], _++_}
 use mathlib.Core.Logic.{_↔_}
 use lib.Dec.{leb}
 use lib.ListN.{take, drop}
-use Rattle.serial.specs.Port.{Port, Out, Input, readOf, writeOf, inputOf, roomOf}
+use Rattle.serial.specs.Port.{Port, readOf, writeOf, inputOf, roomOf}
 use Rattle.serial.specs.Layout.{size, portOf, spareRegisters, freshSpareRegisters}
-use Rattle.serial.specs.Calls.{oneRaise, readWord}
 use Rattle.runs.specs.Reachable.{Reachable}
 use Rattle.serial_saved.specs.Saved.{Restore, savedOf, restoreOf}
 use Rattle.words.specs.Decimal.{decimalOf}
-use Rattle.words.specs.Hex.{byteAt, digitsOf, bytesOf, areBytes}
+use Rattle.words.specs.Hex.{byteAt, bytesOf, areBytes}
 use Rattle.words.specs.Put.{Puts}
 use Rattle.words.specs.Text.{text}
+use Rattle.serial_access.specs.Accesses.{Did, readSays, writeSays, inputSays, roomSays}
 use Rattle.serial_words.specs.Lines.{lineOf}
-use Rattle.serial_words.specs.Said.{raisesSay, sentSays, takenSays, portSays}
+use Rattle.serial_words.specs.Said.{portSays}
 use Rattle.serial_words.specs.declared.line.Line.{Line}
 use Rattle.serial_words.specs.declared.line.Line.the-variants.{Save, Kept, OfPort}
 use Rattle.serial_words.specs.declared.line.Access.{Access}
@@ -90,19 +90,6 @@ asks ports line = asksBy (lineOf line) ports line
 
 -- ---- What is said
 
--- After a read: the parts of the word that the call answers. Where the reply is a byte they are the reply and the raises (`read-plainly`).
-abbrev pub readSays : Out → List ℕ
-readSays o = text "r " ++ digitsOf (readWord o % 256) ++ raisesSay (readWord o / oneRaise)
-
-abbrev pub writeSays : Out → List ℕ
-writeSays o = text "w " ++ sentSays (o .sent) ++ raisesSay (o .raises)
-
-abbrev pub inputSays : Input → List ℕ
-inputSays i = text "b " ++ takenSays (i .full) (i .taken) ++ raisesSay (i .raises)
-
-abbrev pub roomSays : ℕ → List ℕ
-roomSays room = text "room " ++ decimalOf room ++ text "\n"
-
 abbrev pub restoreSays : Restore → Bool → List ℕ
 restoreSays o reached =
     cond (o .refused) (text "restore full\n") (text "restore " ++ decimalOf (o .raises) ++ cond reached (text " reached\n") (text " unreached\n"))
@@ -157,23 +144,6 @@ isSave nothing = false
 abbrev pub Keeps : Bool → Ports → Ports → Type 0
 Keeps true ports ports′ = (ports′ .count ≤ size) × (keptIn ports′ ≡ portIn ports)
 Keeps false ports ports′ = (ports′ .saved ≡ ports .saved) × (ports′ .waiting ≡ ports .waiting) × (ports′ .count ≡ ports .count)
-
--- A call was answered: what was said, and the port that the memory holds.
-pub record Did (said : List ℕ) (port : Port) (regs′ pos′ ring′ out : List ℕ) (at : ℕ) (out′ : List ℕ) (r : ℕ) : Type 0 where
-  pub says : Puts out at said out′ r
-  pub holds : portOf regs′ pos′ ring′ ≡ port
-
-abbrev pub DidRead : ℕ → List ℕ → List ℕ → List ℕ → List ℕ → List ℕ → List ℕ → List ℕ → ℕ → List ℕ → ℕ → Type 0
-DidRead offset regs pos ring regs′ pos′ ring′ out at out′ r =
-    let o = readOf (portOf regs pos ring) offset in Did (readSays o) (o .port) regs′ pos′ ring′ out at out′ r
-
-abbrev pub DidWrite : ℕ → ℕ → List ℕ → List ℕ → List ℕ → List ℕ → List ℕ → List ℕ → List ℕ → ℕ → List ℕ → ℕ → Type 0
-DidWrite offset value regs pos ring regs′ pos′ ring′ out at out′ r =
-    let o = writeOf (portOf regs pos ring) offset value in Did (writeSays o) (o .port) regs′ pos′ ring′ out at out′ r
-
-abbrev pub DidInput : List ℕ → List ℕ → List ℕ → List ℕ → List ℕ → List ℕ → List ℕ → List ℕ → ℕ → List ℕ → ℕ → Type 0
-DidInput bytes regs pos ring regs′ pos′ ring′ out at out′ r =
-    let i = inputOf (portOf regs pos ring) bytes in Did (inputSays i) (i .port) regs′ pos′ ring′ out at out′ r
 
 -- A port was restored.
 pub record Brought (saved : Port) (spares regs pos ring regs′ pos′ ring′ out : List ℕ) (at : ℕ) (out′ : List ℕ) (r : ℕ) : Type 0 where

@@ -1,8 +1,8 @@
 -- The answer is a law of `Saying`.
-use Rattle.serial_lines.proofs.Saying.{reads}
+use Rattle.serial_access.proofs.Saying.{reads}
 use borrow.Author.Needs.{needs}
-use Rattle.serial_lines.proofs.access.read.Statement.{statement}
-use Rattle.serial_lines.proofs.access.read.Tie as tie
+use Rattle.serial_access.proofs.read.Statement.{statement}
+use Rattle.serial_access.proofs.read.Tie as tie
 
 read-requires : tie.Need-read-requires
 read-requires c κs = search needs

@@ -1,8 +1,8 @@
 -- The answer is a law of `Saying`.
-use Rattle.serial_lines.proofs.Saying.{writes}
+use Rattle.serial_access.proofs.Saying.{writes}
 use borrow.Author.Needs.{needs}
-use Rattle.serial_lines.proofs.access.write.Statement.{statement}
-use Rattle.serial_lines.proofs.access.write.Tie as tie
+use Rattle.serial_access.proofs.write.Statement.{statement}
+use Rattle.serial_access.proofs.write.Tie as tie
 
 write-requires : tie.Need-write-requires
 write-requires c κs = search needs

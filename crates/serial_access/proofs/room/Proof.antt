@@ -3,8 +3,8 @@ use mathlib.Core.Path.{ap}
 use Rattle.words.specs.Decimal.{decimalOf}
 use Rattle.words.proofs.Putting.{both, instead}
 use borrow.Author.Needs.{needs}
-use Rattle.serial_lines.proofs.access.room.Statement.{statement}
-use Rattle.serial_lines.proofs.access.room.Tie as tie
+use Rattle.serial_access.proofs.room.Statement.{statement}
+use Rattle.serial_access.proofs.room.Tie as tie
 
 slice-aggregate-put : tie.Need-slice-aggregate-put
 slice-aggregate-put c = search needs

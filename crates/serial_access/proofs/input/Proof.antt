@@ -1,8 +1,8 @@
 -- The answer is a law of `Saying`.
-use Rattle.serial_lines.proofs.Saying.{takes}
+use Rattle.serial_access.proofs.Saying.{takes}
 use borrow.Author.Needs.{needs}
-use Rattle.serial_lines.proofs.access.input.Statement.{statement}
-use Rattle.serial_lines.proofs.access.input.Tie as tie
+use Rattle.serial_access.proofs.input.Statement.{statement}
+use Rattle.serial_access.proofs.input.Tie as tie
 
 input-requires : tie.Need-input-requires
 input-requires c κs = search needs

@@ -1,8 +1,8 @@
--- The answer is a law of `Answering`.
-use Rattle.serial_lines.proofs.Answering.{state-of}
+-- The answer is a law of `Saying`.
+use Rattle.serial_access.proofs.Saying.{state-of}
 use borrow.Author.Needs.{needs}
-use Rattle.serial_lines.proofs.access.state.Statement.{statement}
-use Rattle.serial_lines.proofs.access.state.Tie as tie
+use Rattle.serial_access.proofs.state.Statement.{statement}
+use Rattle.serial_access.proofs.state.Tie as tie
 
 slice-aggregate-put : tie.Need-slice-aggregate-put
 slice-aggregate-put c = search needs
