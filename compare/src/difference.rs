@@ -26,11 +26,6 @@ pub struct Difference {
     pub shown: String,
 }
 
-/// Why the run that is shown is as long as it is.
-const RECORDED: &str = "the run that shows it (a record cannot be asked for a shorter one)";
-const WAVERS: &str =
-    "asked again they agree: one of them does not answer alike twice; this is what was seen";
-
 impl Pair {
     /// How the two differ on a list, if they do.
     pub fn compare(&self, list: &[u8]) -> Result<Option<Difference>, Trouble> {
@@ -39,29 +34,25 @@ impl Pair {
             return Ok(None);
         };
         let asked: Vec<Line> = asking_lines(list).take(place + 1).map(Line::from).collect();
-        let is_record = self.left.is_record || self.right.is_record;
-        let found = if is_record {
-            None
-        } else {
-            self.shortest(&asked)
-        };
-        let (how_found, run, shown) = match found {
+        let (run, shown) = match self.shortest(&asked) {
             Some(run) => {
                 let [left, right] = self.ask(&run.join(&b'\n'))?;
                 let shown = self.shown(&run, [&left, &right], 0);
-                ("the shortest run found that shows it", run, shown)
+                let how_found = "the shortest run found that shows it";
+                (run, format!("{how_found}:\n{shown}"))
             }
             None => {
                 let start = asked.iter().rposition(|line| is_start(line)).unwrap_or(0);
                 let run = asked[start..].to_vec();
                 let shown = self.shown(&run, [&left, &right], start);
-                (if is_record { RECORDED } else { WAVERS }, run, shown)
+                let why = "one of them is a record, or does not answer alike twice";
+                (run, format!("what was seen ({why}):\n{shown}"))
             }
         };
         Ok(Some(Difference {
             line_number: line_number(list, place),
             length: run.len(),
-            shown: format!("{how_found}:\n{shown}"),
+            shown,
         }))
     }
 
@@ -77,6 +68,9 @@ impl Pair {
 
     /// The shortest run found, or none if the difference cannot be had again.
     fn shortest(&self, asked: &[Line]) -> Option<Vec<Line>> {
+        if self.left.is_record || self.right.is_record {
+            return None;
+        }
         let mut differ = |run: &[Line]| {
             let [left, right] = self.ask(&run.join(&b'\n')).ok()?;
             first_difference(&left, &right)

@@ -43,9 +43,11 @@ fn status(output: &Output) -> i32 {
     output.status.code().unwrap()
 }
 
+const LIMIT: Duration = Duration::from_secs(60);
+
 fn difference(left: &str, right: &str, list: &[u8]) -> Option<Difference> {
     let [left, right] = [left, right].map(|name| Answerer::named(name).unwrap());
-    let limit = Duration::from_secs(60);
+    let limit = LIMIT;
     let pair = Pair { left, right, limit };
     pair.compare(list).unwrap()
 }
@@ -113,12 +115,8 @@ the shortest run found that shows it:
 fn a_single_changed_byte_is_found() {
     let list = random::list(&Options::default(), 300, 5);
     let list_file = file("byte.list", &list);
-    let account = tools().unwrap().join("account");
-    let answers = Command::new(account)
-        .stdin(fs::File::open(&list_file).unwrap())
-        .output()
-        .unwrap()
-        .stdout;
+    let account = Answerer::named("account").unwrap();
+    let answers = account.answers(&list, LIMIT).unwrap();
     let mut numbers = Numbers::new(1);
     for _ in 0..100 {
         let place = numbers.below(answers.len());
@@ -157,23 +155,25 @@ fn trouble_is_not_taken_for_agreement() {
         ("true", "0 answers to 3 lines"),
         ("sleep 60", "did not end"),
         ("yes", "without end"),
-        (
-            &script("dies", "head -n 1 | account; exit 3"),
-            "after 1 answers; none to `room`",
-        ),
-        (
-            &script("few", "account | head -n 2"),
-            "2 answers to 3 lines; none to `state`",
-        ),
-        (&script("many", "account; echo ?"), "4 answers to 3 lines"),
-        (&script("unended", "account | head -c -1"), "no line ending"),
-        (
-            &script("lingers", "account; exec >&-; exec sleep 60"),
-            "did not end",
-        ),
     ] {
         let said = trouble(answerer, &list);
         assert!(said.contains(why), "{answerer}: {said}");
+    }
+    for (does, why) in [
+        (
+            "head -n 1 | account; exit 3",
+            "after 1 answers; none to `room`",
+        ),
+        (
+            "account | head -n 2",
+            "2 answers to 3 lines; none to `state`",
+        ),
+        ("account; echo ?", "4 answers to 3 lines"),
+        ("account | head -c -1", "no line ending"),
+        ("account; exec >&-; exec sleep 60", "did not end"),
+    ] {
+        let said = trouble(&script("trouble", does), &list);
+        assert!(said.contains(why), "{does}: {said}");
     }
 }
 
@@ -199,7 +199,7 @@ fn an_answerer_that_changes_its_mind_is_found_out() {
         ),
     );
     let shown = difference("account", &wavers, list).unwrap().shown;
-    assert!(shown.contains("asked again they agree"), "{shown}");
+    assert!(shown.starts_with("what was seen"), "{shown}");
     assert!(shown.contains("room 74"), "{shown}");
 }
 

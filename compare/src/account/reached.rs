@@ -54,24 +54,7 @@ mod tests {
     use crate::account::Account;
     use crate::devices::Devices;
     use crate::driver::Driver;
-    use crate::format::{asking_lines, Words};
-    use crate::generate::{random, Options};
-
-    #[test]
-    fn every_device_met_on_a_random_run_is_reached() {
-        let saves = false;
-        let options = Options {
-            saves,
-            ..Options::default()
-        };
-        let mut driver = Driver::new(Account::default());
-        for line in asking_lines(&random::list(&options, 100_000, 1)) {
-            let (port, met) = (driver.port(), driver.clock());
-            assert!(port.iter().all(serial), "{port:?}");
-            assert!(met.iter().all(|(state, _)| clock(state)), "{met:?}");
-            driver.answer(line);
-        }
-    }
+    use crate::format::Words;
 
     /// All ports that operations lead to from a fresh one, where the bytes are zeros and of the registers
     /// that no interrupt depends on only the loop is changed.

@@ -100,21 +100,10 @@ impl devices::Serial for Wired<api::Serial<Wire, NoEvents, Wire>> {
     }
 
     fn state(&self) -> SerialState {
-        let state = self.device.state();
-        SerialState {
-            registers: [
-                state.baud_divisor_low,
-                state.baud_divisor_high,
-                state.interrupt_enable,
-                state.interrupt_identification,
-                state.line_control,
-                state.line_status,
-                state.modem_control,
-                state.modem_status,
-                state.scratch,
-            ],
-            buffer: state.in_buffer,
-        }
+        let mut state = self.device.state();
+        let registers = registers(&mut state).map(|register| *register);
+        let buffer = state.in_buffer;
+        SerialState { registers, buffer }
     }
 
     /// Where the state is not brought back the port stays.
@@ -127,20 +116,28 @@ impl devices::Serial for Wired<api::Serial<Wire, NoEvents, Wire>> {
     }
 }
 
+/// The registers of a state in the judge's order.
+fn registers(state: &mut api::SerialState) -> [&mut u8; 9] {
+    [
+        &mut state.baud_divisor_low,
+        &mut state.baud_divisor_high,
+        &mut state.interrupt_enable,
+        &mut state.interrupt_identification,
+        &mut state.line_control,
+        &mut state.line_status,
+        &mut state.modem_control,
+        &mut state.modem_status,
+        &mut state.scratch,
+    ]
+}
+
 pub fn port_state(state: &SerialState) -> api::SerialState {
-    let [dll, dlm, ier, iir, lcr, lsr, mcr, msr, scr] = state.registers;
-    api::SerialState {
-        baud_divisor_low: dll,
-        baud_divisor_high: dlm,
-        interrupt_enable: ier,
-        interrupt_identification: iir,
-        line_control: lcr,
-        line_status: lsr,
-        modem_control: mcr,
-        modem_status: msr,
-        scratch: scr,
-        in_buffer: state.buffer.clone(),
+    let mut written = api::SerialState::default();
+    for (target, value) in registers(&mut written).into_iter().zip(state.registers) {
+        *target = value;
     }
+    written.in_buffer = state.buffer.clone();
+    written
 }
 
 impl devices::Clock for Wired<api::Rtc<ClockEvents>> {

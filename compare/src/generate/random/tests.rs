@@ -4,7 +4,7 @@ use std::collections::HashMap;
 
 use super::*;
 use crate::account::Account;
-use crate::devices::{IIR, LCR, MCR};
+use crate::devices::{SerialState, IIR, LCR, MCR};
 use crate::driver::Driver;
 use crate::format::{asking_lines, is_start, parse, Operation::*};
 use crate::generate::announces;
@@ -18,69 +18,70 @@ fn sample(devices: &[Device], quiet_enable: bool, seed: u64) -> Vec<u8> {
     list(&options, 50_000, seed)
 }
 
-/// What a line meets, by name, where the account is as it is in the driver.
-fn names(driver: &Driver<Account>, line: &[u8]) -> Vec<String> {
-    let mut names = vec![String::from_utf8_lossy(line).into_owned()];
-    let operation = parse(line);
-    names.extend(match &operation {
-        None => Some("malformed".to_string()),
-        Some(Input(bytes)) => Some(format!("input of {}", bytes.len())),
-        Some(ReadByte(8..)) => Some("read beyond".to_string()),
-        Some(WriteByte(8.., _)) => Some("write beyond".to_string()),
-        _ => None,
-    });
-    if let Some(port) = driver.port() {
-        let access = match operation {
-            Some(Input(_)) => "b".to_string(),
-            _ => names[0].chars().take(4).collect(),
-        };
-        let (open, looped) = (port.registers[LCR] & 0x80, port.registers[MCR] & 0x10);
-        let waiting = port.buffer.len();
-        names.push(format!(
-            "{access} while {waiting} wait, divisor {open:x}, loop {looped:x}"
-        ));
-        names.extend(
-            (port.registers[IIR] & 0x04 != 0).then_some("received data marked".to_string()),
-        );
-    }
-    names.extend(announces(driver, line).then_some("announces".to_string()));
-    names
-}
+/// How often each thing is met on a list, by its name.
+struct Met(HashMap<String, usize>);
 
-/// How often each thing is met on a list. Of what is brought back it counts with the answer.
-fn met(text: &[u8]) -> HashMap<String, usize> {
-    let mut driver = Driver::new(Account::default());
-    let mut met = HashMap::new();
-    let mut after_start = false;
-    for line in asking_lines(text) {
-        let mut names = names(&driver, line);
-        let clock = driver.clock();
-        let answer = String::from_utf8(driver.answer(line)).unwrap();
-        let answer = answer.trim_end();
-        names.push(match (parse(line), clock) {
-            (Some(Restore), _) if after_start => format!("kept, into a fresh one: {answer}"),
-            (Some(Restore), _) => format!("kept: {answer}"),
-            (Some(RestoreSerial(_) | RestoreClock(_)), _) => format!("made up: {answer}"),
-            (Some(Now(time)), Some((_, before))) if time < before => "time goes back".to_string(),
-            (Some(ReadWord(0, _)), Some((clock, now))) if clock.offset != 0 => {
-                let is_hosts = answer == format!("r {:08x} ok", (now as u32).swap_bytes());
-                format!("shows its host's time: {is_hosts}")
+impl Met {
+    fn on(text: &[u8]) -> Self {
+        let mut driver = Driver::new(Account::default());
+        let mut met = Met(HashMap::new());
+        let mut into = "";
+        for line in asking_lines(text) {
+            let clock = driver.clock();
+            met.before(&driver, line);
+            let answer = String::from_utf8(driver.answer(line)).unwrap();
+            let answer = answer.trim_end();
+            match (parse(line), clock) {
+                (Some(Restore), _) => met.note(&format!("kept{into}: {answer}")),
+                (Some(operation), _) if operation.brings_back() => {
+                    met.note(&format!("made up: {answer}"))
+                }
+                (Some(Now(time)), Some((_, before))) if time < before => met.note("goes back"),
+                (Some(ReadWord(0, _)), Some((clock, now))) if clock.offset != 0 => {
+                    let hosts = format!("r {:08x} ok", (now as u32).swap_bytes());
+                    met.note(&format!("shows its host's time: {}", answer == hosts));
+                }
+                _ => {}
             }
-            _ => String::new(),
-        });
-        for name in names {
-            *met.entry(name).or_insert(0) += 1;
+            into = ["", ", into a fresh one"][usize::from(is_start(line))];
         }
-        after_start = is_start(line);
+        met
     }
-    met
-}
 
-/// Holds that each of these is met so often.
-fn holds<const N: usize>(met: &HashMap<String, usize>, least: usize, names: [impl AsRef<str>; N]) {
-    for name in names {
+    /// Notes what a line meets before it is answered: of a port, how many bytes wait, and whether the
+    /// divisor is open and the loop closed.
+    fn before(&mut self, driver: &Driver<Account>, line: &[u8]) {
+        let text = String::from_utf8_lossy(line);
+        let access = match parse(line) {
+            None => "malformed",
+            Some(Input(_)) => "b",
+            Some(ReadByte(8..)) => "read beyond",
+            Some(WriteByte(8.., _)) => "write beyond",
+            Some(_) => &text[..text.len().min(4)],
+        };
+        self.note(&text);
+        self.note(access);
+        if let Some(Input(bytes)) = parse(line) {
+            self.note(&format!("input of {}", bytes.len()));
+        }
+        if announces(driver, line) {
+            self.note("announces");
+        }
+        if let Some(SerialState { registers, buffer }) = driver.port() {
+            let (open, looped) = (registers[LCR] & 0x80, registers[MCR] & 0x10);
+            self.note(&format!("{access} at {} {open:x} {looped:x}", buffer.len()));
+            self.note(&format!("IIR {:02x}", registers[IIR]));
+        }
+    }
+
+    fn note(&mut self, name: &str) {
+        *self.0.entry(name.to_string()).or_insert(0) += 1;
+    }
+
+    /// Holds that something is met so often.
+    fn holds(&self, least: usize, name: impl AsRef<str>) {
         let name = name.as_ref();
-        let times = met.get(name).copied().unwrap_or(0);
+        let times = self.0.get(name).copied().unwrap_or(0);
         assert!(times >= least, "{name}: {times} times");
     }
 }
@@ -95,48 +96,33 @@ fn the_same_seed_makes_the_same_list_of_the_length_asked_for() {
 
 #[test]
 fn every_limit_of_the_serial_port_is_visited() {
-    let met = met(&sample(&[Device::Serial], true, 1));
+    let met = Met::on(&sample(&[Device::Serial], true, 1));
     for (open, looped) in [("0", "0"), ("0", "10"), ("80", "0"), ("80", "10")] {
         for waiting in [0, 1, 63, 64] {
-            let here = format!("while {waiting} wait, divisor {open}, loop {looped}");
-            holds(
-                &met,
-                10,
-                ["r 00", "w 00", "b"].map(|access| format!("{access} {here}")),
-            );
+            for access in ["r 00", "w 00", "b"] {
+                met.holds(10, format!("{access} at {waiting} {open} {looped}"));
+            }
         }
     }
-    holds(
-        &met,
-        10,
-        [0, 1, 63, 64, 65, 200].map(|size| format!("input of {size}")),
-    );
-    holds(
-        &met,
-        10,
-        ["write beyond", "read beyond", "received data marked"],
-    );
-    holds(&met, 500, ["malformed"]);
+    for size in [0, 1, 63, 64, 65, 200] {
+        met.holds(10, format!("input of {size}"));
+    }
+    for name in ["write beyond", "read beyond", "IIR 04"] {
+        met.holds(10, name);
+    }
+    met.holds(500, "malformed");
 }
 
 #[test]
 fn every_limit_of_the_clock_is_visited() {
-    let met = met(&sample(&[Device::Clock], true, 1));
-    holds(
-        &met,
-        1,
-        [0, 0xffff_ffff, 0x1_0000_0000, u64::MAX].map(|time| format!("now {time}")),
-    );
-    holds(
-        &met,
-        100,
-        [
-            "time goes back",
-            "shows its host's time: true",
-            "shows its host's time: false",
-        ],
-    );
-    holds(&met, 500, ["malformed"]);
+    let met = Met::on(&sample(&[Device::Clock], true, 1));
+    for time in [0, 0xffff_ffff, 0x1_0000_0000, u64::MAX] {
+        met.holds(1, format!("now {time}"));
+    }
+    met.holds(100, "goes back");
+    met.holds(100, "shows its host's time: true");
+    met.holds(100, "shows its host's time: false");
+    met.holds(500, "malformed");
 }
 
 #[test]
@@ -152,21 +138,19 @@ fn states_of_every_kind_are_brought_back() {
         (Device::Serial, &ports[..], &["2 unreached", "full"][..]),
         (Device::Clock, &["reached", "unreached"], &[]),
     ] {
-        let met = met(&sample(&[device], false, 1));
+        let met = Met::on(&sample(&[device], false, 1));
         for answer in kept {
-            holds(
-                &met,
-                5,
-                ["kept", "kept, into a fresh one"].map(|what| format!("{what}: restore {answer}")),
-            );
+            met.holds(5, format!("kept: restore {answer}"));
+            met.holds(5, format!("kept, into a fresh one: restore {answer}"));
         }
         for answer in kept.iter().chain(refused) {
-            holds(&met, 20, [format!("made up: restore {answer}")]);
+            met.holds(20, format!("made up: restore {answer}"));
         }
     }
-    let met = met(&sample(&[Device::I8042], false, 1));
-    holds(&met, 100, ["kept: ?", "made up: ?"]);
-    holds(&met, 500, ["malformed"]);
+    let met = Met::on(&sample(&[Device::I8042], false, 1));
+    met.holds(100, "kept: ?");
+    met.holds(100, "made up: ?");
+    met.holds(500, "malformed");
 }
 
 #[test]
@@ -176,13 +160,13 @@ fn a_list_without_saved_states_has_none() {
         ..Options::default()
     };
     let text = list(&options, 20_000, 1);
-    let about_states = |line: &&[u8]| line.starts_with(b"save") || line.starts_with(b"restore");
-    assert_eq!(asking_lines(&text).filter(about_states).count(), 0);
+    let about_states = |line: &[u8]| line.starts_with(b"save") || line.starts_with(b"restore");
+    assert!(!asking_lines(&text).any(about_states));
 }
 
 #[test]
 fn a_quiet_list_never_announces_and_another_does() {
-    let [loud, quiet] = [false, true].map(|quiet| met(&sample(&Device::ALL, quiet, 1)));
-    assert!(!quiet.contains_key("announces"));
-    holds(&loud, 100, ["announces"]);
+    let [loud, quiet] = [false, true].map(|quiet| Met::on(&sample(&Device::ALL, quiet, 1)));
+    assert!(!quiet.0.contains_key("announces"));
+    loud.holds(100, "announces");
 }
