@@ -1,11 +1,11 @@
-//! The account with one fault planted in it, to see that the judge finds it. Each device here is the
-//! account's, corrected for the worse before or after the call; and so is what drives them.
+//! The account with one fault planted in it, to see that the judge finds it. What the account answers to
+//! a line, or the state that it leaves the device in, is changed for the worse.
 
 use crate::account::serial::{LSR_DATA_READY, RECEIVED_DATA, SIZE};
-use crate::account::{self, clock::cut, reached};
-use crate::devices::{self, ClockState, Devices, Raised, SerialState, IER, IIR, LSR, SCR};
+use crate::account::{clock::cut, reached, Account};
+use crate::devices::{ClockState, SerialState, IER, IIR, LCR, LSR, MCR, SCR};
 use crate::driver::Driver;
-use crate::format::{self, asking_lines, Device, Operation};
+use crate::format::{asking_lines, is_start, parse, Device, Operation, Operation::*, Words};
 
 const SERIAL: Option<Device> = Some(Device::Serial);
 const CLOCK: Option<Device> = Some(Device::Clock);
@@ -16,7 +16,7 @@ const I8042: Option<Device> = Some(Device::I8042);
 /// tests that look for the fault fail.
 #[rustfmt::skip]
 pub const FAULTS: [(Option<Device>, &str, &str); 28] = [
-    (SERIAL, "accepts-byte-65", "in loopback a full buffer accepts one more byte"),
+    (SERIAL, "byte-65-replaces", "in loopback a byte that finds no room takes the place of the last one"),
     (SERIAL, "data-ready-stays", "LSR says that data is ready after the last byte was read"),
     (SERIAL, "data-ready-goes-early", "LSR says that no data is ready while bytes wait"),
     (SERIAL, "empty-input-raises", "a bulk input of 0 bytes raises an interrupt"),
@@ -24,11 +24,11 @@ pub const FAULTS: [(Option<Device>, &str, &str); 28] = [
     (SERIAL, "full-takes-none", "a full buffer takes 0 bytes instead of refusing"),
     (SERIAL, "identify-keeps", "reading IIR does not reset it"),
     (SERIAL, "wires-swapped", "in loopback CTS follows DTR, and DSR follows RTS"),
-    (SERIAL, "second-port-remembers", "a second fresh port has a scratch register of 1"),
+    (SERIAL, "fresh-port-remembers", "a fresh port has the scratch register of the one before"),
     (SERIAL, "restore-drops-byte", "the last byte of a state is not brought back"),
     (SERIAL, "restore-forgets-raise", "where both kinds are to be raised again, only one is"),
     (SERIAL, "restore-doubles-raise", "received data is raised again twice"),
-    (SERIAL, "restore-accepts-65", "a state with 65 bytes is brought back"),
+    (SERIAL, "restore-accepts-65", "of a state with 65 bytes 64 are brought back"),
     (SERIAL, "refusal-changes", "a state that is refused changes the scratch register"),
     (SERIAL, "reached-without-byte", "received data may be marked though no byte waits"),
     (SERIAL, "reached-though-full", "received data may have been unmarked by a read though the buffer is full"),
@@ -47,132 +47,172 @@ pub const FAULTS: [(Option<Device>, &str, &str); 28] = [
 ];
 
 /// Answers a whole list with a fault in it.
-pub fn answers(fault: &'static str, mut list: Vec<u8>) -> Vec<u8> {
+pub fn answers(fault: &str, mut list: Vec<u8>) -> Vec<u8> {
     if fault == "reads-upper-case" {
         list.make_ascii_lowercase();
     }
-    let fresh = || Driver::new(Faulty { fault, of: 0 });
-    let mut driver = fresh();
+    let mut driver = Driver::new(Account::default());
     let mut answers = Vec::new();
     for line in asking_lines(&list) {
-        if fault == "fresh-forgets-kept" && format::is_start(line) {
-            driver = fresh();
+        if fault == "fresh-forgets-kept" && is_start(line) {
+            driver = Driver::new(Account::default());
         }
-        answers.extend(driver.answer(line));
-        let made_up = |o| matches!(o, Operation::RestoreSerial(_) | Operation::RestoreClock(_));
-        if fault == "made-up-is-kept" && format::parse(line).is_some_and(made_up) {
-            driver.answer(b"save");
-        }
+        let before = driver.port();
+        let answer = driver.answer(line);
+        answers.extend(match parse(line) {
+            Some(asked) if answer != b"?\n" => {
+                let answer = String::from_utf8_lossy(&answer).into_owned();
+                let answered = Answered {
+                    fault,
+                    asked,
+                    answer,
+                };
+                answered.spoiled(&mut driver, before).into_bytes()
+            }
+            _ => answer,
+        });
     }
     answers
 }
 
-/// Something of the account's, with a fault. What makes the devices has counted the ports.
-struct Faulty<T> {
-    fault: &'static str,
-    of: T,
+/// A line that was answered.
+struct Answered<'a> {
+    fault: &'a str,
+    asked: Operation,
+    answer: String,
 }
 
-impl Devices for Faulty<usize> {
-    fn serial(&mut self) -> Box<dyn devices::Serial> {
-        let (fault, mut of) = (self.fault, account::serial::Serial::fresh(false));
-        if fault == "second-port-remembers" && self.of > 0 {
-            of.registers[SCR] = 1;
-        }
-        self.of += 1;
-        Box::new(Faulty { fault, of })
-    }
-
-    fn clock(&mut self) -> Box<dyn devices::Clock> {
-        let (fault, of) = (self.fault, account::clock::Clock::default());
-        Box::new(Faulty { fault, of })
-    }
-
-    fn i8042(&mut self) -> Box<dyn devices::I8042> {
-        let (fault, of) = (self.fault, account::I8042);
-        Box::new(Faulty { fault, of })
-    }
-}
-
-impl Faulty<account::serial::Serial> {
-    fn is_data(&self, offset: u8) -> bool {
-        offset == 0 && !self.of.divisor_is_open()
-    }
-}
-
-impl devices::Serial for Faulty<account::serial::Serial> {
-    fn write(&mut self, offset: u8, value: u8) -> (Option<u8>, Raised) {
-        let overflows = self.is_data(offset) && self.of.loops() && self.room() == 0;
-        let answer = self.of.write(offset, value);
-        if self.fault == "accepts-byte-65" && overflows {
-            self.of.buffer.push(value);
-        }
-        answer
-    }
-
-    fn read(&mut self, offset: u8) -> (u8, Raised) {
-        let is_data = self.is_data(offset);
-        let before = self.of.registers;
-        let (mut value, raised) = self.of.read(offset);
-        match self.fault {
-            "data-ready-stays" => self.of.registers[LSR] = before[LSR],
-            "data-ready-goes-early" if is_data => {
-                self.of.registers[LSR] = before[LSR] & !LSR_DATA_READY
+impl Answered<'_> {
+    /// The answer with the fault in it. So is the device's state from here on.
+    fn spoiled(mut self, driver: &mut Driver<Account>, before: Option<SerialState>) -> String {
+        let restore = Words::start("restore");
+        if let Some(state) = driver.port() {
+            let spoiled = self.port(before.as_ref().unwrap_or(&state), state.clone());
+            if spoiled != state {
+                driver.answer(&restore.registers(&spoiled).waiting(&spoiled).0);
             }
-            "identify-keeps" if offset == 2 => self.of.registers[IIR] = before[IIR],
-            "wires-swapped" if offset == 6 && self.of.loops() => {
-                value = value & !0x30 | (value & 0x10) << 1 | (value & 0x20) >> 1;
+        } else if let Some((state, now)) = driver.clock() {
+            let spoiled = self.clock(state, now);
+            if spoiled != state {
+                driver.answer(&restore.clock(&spoiled).0);
+            }
+        } else {
+            self.i8042();
+        }
+        if self.fault == "made-up-is-kept" && self.asked.brings_back() {
+            driver.answer(b"save");
+        }
+        self.answer
+    }
+
+    fn says(&mut self, answer: &str) {
+        self.answer = format!("{answer}\n");
+    }
+
+    /// Says in place of these words the others.
+    fn not(&mut self, words: &str, others: &str) {
+        self.answer = self.answer.replace(words, others);
+    }
+
+    fn port(&mut self, before: &SerialState, mut after: SerialState) -> SerialState {
+        let (was, is) = (before.registers, &mut after.registers);
+        let is_data = was[LCR] & 0x80 == 0;
+        let looped = was[MCR] & 0x10 != 0;
+        match (self.fault, &self.asked) {
+            ("byte-65-replaces", WriteByte(0, value)) if is_data && looped => {
+                if before.buffer.len() == SIZE {
+                    after.buffer[SIZE - 1] = *value;
+                }
+            }
+            ("data-ready-stays", ReadByte(_)) => is[LSR] = was[LSR],
+            ("data-ready-goes-early", ReadByte(0)) if is_data => is[LSR] &= !LSR_DATA_READY,
+            ("identify-keeps", ReadByte(2)) => is[IIR] = was[IIR],
+            ("wires-swapped", ReadByte(6)) if looped => {
+                let value = u8::from_str_radix(&self.answer[2..4], 16).unwrap_or(0);
+                let swapped = value & !0x30 | (value & 0x10) << 1 | (value & 0x20) >> 1;
+                self.says(&format!("r {swapped:02x} 0"));
+            }
+            ("fresh-port-remembers", Start(_)) => is[SCR] = was[SCR],
+            ("empty-input-raises", Input(bytes)) if bytes.is_empty() => self.says("b 0 1"),
+            ("raises-again", Input(_)) if RECEIVED_DATA.is_enabled(is[IER]) => {
+                if before.buffer.len() < after.buffer.len() {
+                    self.not(" 0\n", " 1\n");
+                }
+            }
+            ("full-takes-none", Input(_)) => self.not("full", "0"),
+            ("refusal-changes", RestoreSerial(state)) if self.answer == "restore full\n" => {
+                is[SCR] = state.registers[SCR]
+            }
+            ("restore-accepts-65", RestoreSerial(state)) if state.buffer.len() == SIZE + 1 => {
+                after = state.clone();
+                after.buffer.pop();
+                self.says("restore 0 unreached");
+            }
+            (_, asked) if asked.brings_back() => self.brought_back(&mut after),
+            _ => {}
+        }
+        after
+    }
+
+    fn brought_back(&mut self, port: &mut SerialState) {
+        match (self.fault, port.buffer.len()) {
+            ("restore-drops-byte", _) => drop(port.buffer.pop()),
+            ("restore-forgets-raise", _) => self.not("2", "1"),
+            ("restore-doubles-raise", _) if RECEIVED_DATA.is_raised(port) => {
+                self.not("2", "3");
+                self.not("1", "2");
+            }
+            ("reached-without-byte", 0) => self.reached_as(&without_received_data(port)),
+            ("reached-though-full", SIZE) => {
+                let (registers, buffer) = (port.registers, vec![0; SIZE - 1]);
+                self.reached_as(&SerialState { registers, buffer });
             }
             _ => {}
         }
-        (value, raised)
     }
 
-    fn input(&mut self, bytes: &[u8]) -> (Option<usize>, Raised) {
-        let (taken, raised) = self.of.input(bytes);
-        let enabled = RECEIVED_DATA.is_enabled(self.of.registers[IER]);
-        match (self.fault, taken) {
-            ("empty-input-raises", _) if bytes.is_empty() => (taken, 1),
-            ("raises-again", Some(count)) if enabled && count > 0 => (taken, 1),
-            ("full-takes-none", None) => (Some(0), raised),
-            _ => (taken, raised),
+    /// Says that the state was reached if the other was.
+    fn reached_as(&mut self, other: &SerialState) {
+        if reached::serial(other) {
+            self.not("unreached", "reached");
         }
     }
 
-    fn room(&self) -> usize {
-        self.of.room()
-    }
-
-    fn state(&self) -> SerialState {
-        self.of.state()
-    }
-
-    fn restore(&mut self, state: &SerialState) -> Option<Raised> {
-        let raised = self.of.restore(state);
-        match (self.fault, raised) {
-            ("restore-drops-byte", Some(_)) => drop(self.of.buffer.pop()),
-            ("restore-forgets-raise", Some(2)) => return Some(1),
-            ("restore-doubles-raise", Some(times)) if RECEIVED_DATA.is_raised(state) => {
-                return Some(times + 1)
+    fn clock(&mut self, mut clock: ClockState, now: u64) -> ClockState {
+        match (self.fault, &self.asked) {
+            ("time-not-cut", WriteWord(0x08, data)) => {
+                let value = i64::from(u32::from_le_bytes(*data));
+                clock.offset = value.wrapping_sub(now as i64);
             }
-            ("restore-accepts-65", None) if state.buffer.len() == SIZE + 1 => {
-                let raised = self.of.restore(&with_buffer(state, &state.buffer[1..]));
-                self.of.buffer = state.buffer.clone();
-                return raised;
+            ("sum-wraps", ReadWord(0x00, _)) => {
+                let sum = i64::from(cut(now)).wrapping_add(clock.offset) as u32;
+                self.says(&format!("r {:08x} ok", sum.swap_bytes()));
             }
-            ("refusal-changes", None) => self.of.registers[SCR] = state.registers[SCR],
+            ("clear-read-zeroes", ReadWord(0x1c, _)) => self.says("r 00000000 invalid"),
+            ("identity-unaligned", ReadWord(offset, _)) if offset & 3 != 0 => {
+                self.not("ok", "invalid")
+            }
+            ("restore-cuts-offset", asked) if asked.brings_back() => {
+                clock.offset = clock.offset << 31 >> 31
+            }
+            ("restore-clears-status", asked) if asked.brings_back() => clock.raw = 0,
+            ("reached-too-far", asked) if asked.brings_back() => {
+                let offset = clock.offset.saturating_add(1);
+                if reached::clock(&ClockState { offset, ..clock }) {
+                    self.not("unreached", "reached");
+                }
+            }
             _ => {}
         }
-        raised
+        clock
     }
 
-    fn reaches(&self, state: &SerialState) -> bool {
-        let other = match (self.fault, state.buffer.len()) {
-            ("reached-without-byte", 0) => without_received_data(state),
-            ("reached-though-full", SIZE) => with_buffer(state, &state.buffer[1..]),
-            _ => state.clone(),
-        };
-        reached::serial(state) || reached::serial(&other)
+    fn i8042(&mut self) {
+        if let ("resets-on-ff", WriteByte(4, 0xff)) | ("resets-on-data-port", WriteByte(0, 0xfe)) =
+            (self.fault, &self.asked)
+        {
+            self.says("w reset");
+        }
     }
 }
 
@@ -186,66 +226,4 @@ fn without_received_data(state: &SerialState) -> SerialState {
         iir => iir,
     };
     other
-}
-
-fn with_buffer(state: &SerialState, buffer: &[u8]) -> SerialState {
-    let (registers, buffer) = (state.registers, buffer.to_vec());
-    SerialState { registers, buffer }
-}
-
-impl devices::Clock for Faulty<account::clock::Clock> {
-    fn write(&mut self, now: u64, offset: u16, data: &[u8; 4]) -> bool {
-        let valid = self.of.write(now, offset, data);
-        if self.fault == "time-not-cut" && offset == 0x08 {
-            let value = i64::from(u32::from_le_bytes(*data));
-            self.of.0.offset = value.wrapping_sub(now as i64);
-        }
-        valid
-    }
-
-    fn read(&mut self, now: u64, offset: u16, data: &mut [u8; 4]) -> bool {
-        let valid = self.of.read(now, offset, data);
-        match (self.fault, offset) {
-            ("sum-wraps", 0x00) => {
-                let sum = i64::from(cut(now)).wrapping_add(self.of.0.offset);
-                *data = (sum as u32).to_le_bytes();
-            }
-            ("clear-read-zeroes", 0x1c) => *data = [0; 4],
-            ("identity-unaligned", 0x1d..) if offset & 3 != 0 => return false,
-            _ => {}
-        }
-        valid
-    }
-
-    fn state(&self) -> ClockState {
-        self.of.state()
-    }
-
-    fn restore(&mut self, state: &ClockState) {
-        self.of.restore(state);
-        match self.fault {
-            "restore-cuts-offset" => self.of.0.offset = state.offset << 31 >> 31,
-            "restore-clears-status" => self.of.0.raw = 0,
-            _ => {}
-        }
-    }
-
-    fn reaches(&self, state: &ClockState) -> bool {
-        let offset = state.offset.saturating_add(1);
-        let later = ClockState { offset, ..*state };
-        reached::clock(state) || self.fault == "reached-too-far" && reached::clock(&later)
-    }
-}
-
-impl devices::I8042 for Faulty<account::I8042> {
-    fn write(&mut self, offset: u8, value: u8) -> bool {
-        match (self.fault, offset, value) {
-            ("resets-on-ff", 4, 0xff) | ("resets-on-data-port", 0, 0xfe) => true,
-            _ => self.of.write(offset, value),
-        }
-    }
-
-    fn read(&mut self, offset: u8) -> u8 {
-        self.of.read(offset)
-    }
 }
