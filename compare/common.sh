@@ -28,7 +28,7 @@ take_replay() {
 
 # Builds the judge and finds out about the original: whether it is there, and how old it is. Since 0.8.2 a
 # write of the interrupt enable register announces what is pending. An older original is compared with
-# the account of its own ways, and with REPLAY on lists that leave such writes out.
+# the account of its own ways, and with ours on lists that leave such writes out.
 prepare() {
     cd "$root" || exit 2
     if ! make -s -f compare/Makefile; then
@@ -39,13 +39,13 @@ prepare() {
     rm -rf "$lists"
     mkdir -p "$lists"
     original=
-    account=account
+    account='account --original'
     domain=
     if [ ! -x "$tools"/original ]; then
         echo "the original's source is not at hand (VM_SUPERIO_SRC names its folder): going on without"
         return
     fi
-    original=yes
+    original=original
     if printf 'serial\nw 01 02\n' | "$tools"/original | grep -qx 'w -- 0'; then
         account='account --quiet-enable'
         domain=--quiet-enable
@@ -74,26 +74,28 @@ list() {
     echo "$file"
 }
 
-# agree WHAT LEFT RIGHT ARGUMENT..: whether two answerers agree on such a list.
+# agree WHAT LEFT RIGHT LIST: whether two answerers agree on a list.
 agree() {
-    local what=$1 left=$2 right=$3
-    shift 3
-    check "$what: ${left##*/} and ${right##*/}" "$tools"/compare "$left" "$right" "$(list "$@")"
+    check "$1: ${2##*/} and ${3##*/}" "$tools"/compare "$2" "$3" "$4"
 }
 
-# judge WHAT ARGUMENT..: whether all agree on such a list: original, account and replay.
+# beside WHAT ORIGINAL OURS LIST: whether they differ where the rows say so, and nowhere else.
+beside() {
+    check "$1: rows of ${2##*/} and ${3##*/}" "$tools"/compare --rows "$2" "$3" "$4"
+}
+
+# judge WHAT ARGUMENT..: whether all are as they should on such a list: original, account and replay.
 judge() {
-    local what=$1
+    local what=$1 devices=()
     shift
+    [ -z "$replay" ] || devices=(--devices "$replay_devices")
     if [ -n "$original" ]; then
-        agree "$what" original "$account" "$@"
+        agree "$what" original "$account" "$(list "$@")"
     fi
     if [ -n "$replay" ]; then
-        agree "$what" account "$replay" "$@" --devices "$replay_devices"
-        if [ -n "$original" ]; then
-            agree "$what" original "$replay" "$@" --devices "$replay_devices" $domain
-        fi
+        agree "$what" account "$replay" "$(list "$@" "${devices[@]}")"
     fi
+    beside "$what" "${original:-$account}" "${replay:-account}" "$(list "$@" "${devices[@]}" $domain)"
 }
 
 # The last line, and the status of the command.

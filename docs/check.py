@@ -1,8 +1,8 @@
 #!/usr/bin/env python3
 """Holds the documents to the tree: each says only what is there.
 
-- every row of docs/DIFFERENCES.md (a heading `### name`) has a list lists/differences/name.list, or says that no list shows it, and every
-  such list has a row;
+- every row of docs/DIFFERENCES.md (a heading `### name`) has a list of that name in lists/differences or lists/original, or says that no list shows
+  it, and every such list has a row;
 - every row that a definition names or that is a constructor of `Row` is there;
 - every theorem of docs/THEOREMS.md, written `name` ([file](path)), is declared in that file;
 - every link to a file leads to one.
@@ -33,27 +33,33 @@ def rows():
 
 def rows_have_lists():
     shown = {name for name, text in rows().items() if "**Shown by** no list" not in text}
-    lists = {os.path.basename(path)[: -len(".list")] for path in tree("lists/differences/*.list")}
-    for name in sorted(shown - lists):
-        yield f"the row {name} has no list in lists/differences"
-    for name in sorted(lists - shown):
-        yield f"lists/differences/{name}.list has no row in docs/DIFFERENCES.md"
+    paths = tree("lists/differences/*.list") + tree("lists/original/*.list")
+    lists = {os.path.basename(path)[: -len(".list")]: path for path in paths}
+    for name in sorted(shown - lists.keys()):
+        yield f"the row {name} has no list in lists/differences or lists/original"
+    for name in sorted(lists.keys() - shown):
+        yield f"{lists[name]} has no row in docs/DIFFERENCES.md"
 
 
 def named_rows_exist():
     known = rows()
     for path in tree("crates/*/specs/*.antt"):
-        for name in re.findall(r'"((?:i8042|clock|serial)-[a-z0-9-]+)"', read(path)):
+        for name in re.findall(r'"((?:i8042|clock|serial|original)-[a-z0-9-]+)"', read(path)):
             if name not in known:
                 yield f"{path} names the row {name}, which docs/DIFFERENCES.md does not have"
 
 
 def constructors_have_rows():
     known = rows()
-    for path in tree("crates/*/specs/Compare.antt"):
-        for name in re.findall(r"^  ((?:clock|serial)-[a-z0-9-]+) :", read(path), re.M):
+    proved = set()
+    for path in tree("crates/*/specs/Compare.antt") + tree("crates/*/specs/Beside.antt"):
+        for name in re.findall(r"^  ((?:clock|serial|original)-[a-z0-9-]+) :", read(path), re.M):
+            proved.add(name)
             if name not in known:
                 yield f"{path} has the row {name}, which docs/DIFFERENCES.md does not have"
+    for name in sorted(known):
+        if name.startswith("original-") and name not in proved:
+            yield f"docs/DIFFERENCES.md has the row {name}, which is no constructor of a Row"
 
 
 def theorems_exist():

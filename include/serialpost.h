@@ -8,8 +8,13 @@
  * in its answer and changes nothing. What a call wants done (a byte sent, an interrupt raised, a reset) is in
  * its answer, and you do it before the next access.
  *
- * A raise is a pulse on the interrupt line, as an edge-triggered input takes it: signal the line's event once for
- * each. Nothing lowers the line. A guest learns from the device's registers what it was for.
+ * A host whose interrupt input is edge-triggered, or an event file descriptor, signals once for each raise. One whose
+ * interrupt controller is level-triggered (Arm's GIC, a PC's IO-APIC in level mode) sets the line to what
+ * serialpost_serial_line answers after each call, and needs no raises. The line never rises without a raise, a call
+ * that raises leaves it high, and it falls when nothing that is enabled is pending.
+ * A raise tells that a kind of interrupt has become active, not how many bytes wait. With IER 01 two bytes come and
+ * raise once; one of them is read; a third comes and raises nothing, for the line is high still. A driver that reads
+ * one byte for each interrupt needs the level.
  *
  * Spare bytes and words are 0 in a fresh device. Every call keeps them as they are: leave them alone.
  *
@@ -26,7 +31,7 @@
 
 /* The version of all that is declared here: it changes with the calls, the structs and the answers. Where the library
  * that you have linked answers another number, make no other call. */
-#define SERIALPOST_VERSION 1
+#define SERIALPOST_VERSION 2
 
 static inline uint32_t serialpost_version(void)
 {
@@ -149,7 +154,9 @@ enum {
     SERIALPOST_SCR = 7
 };
 
-/* regs: each register at its offset, the divisor's low byte at 0 and its high byte at 8; 9 to 15 are spare.
+/* regs: each register at its offset, the divisor's low byte at 0 and its high byte at 8; 9 to 15 are spare. Of IIR only
+ * bit 0x02 has a meaning here, the transmitter's pending interrupt. A call stores in it a bit for each active kind, so
+ * that vm-superio, given a saved port, raises what is due.
  * pos: where the first waiting byte lies in the ring, counted modulo 1024, and how many wait; a number above 64
  * counts as 64. The last two are spare. */
 struct serialpost_serial {
@@ -193,6 +200,12 @@ static inline uint32_t serialpost_serial_room(const struct serialpost_serial *po
     return serialpost_raw_serial_room(port->pos);
 }
 
+/* Answers whether the interrupt line is high: something that is enabled is pending. Refuses nothing. */
+static inline bool serialpost_serial_line(const struct serialpost_serial *port)
+{
+    return serialpost_raw_serial_line(port->regs, port->pos);
+}
+
 /* A whole run in one call: `ops` has three bytes for each operation, its kind first.
  *   0 offset any      a read
  *   1 offset value    a write
@@ -231,9 +244,9 @@ static inline uint64_t serialpost_serial_lent(const struct serialpost_serial_sav
 }
 
 /* Restores a port into any memory; its spare positions stay, so make new memory a fresh port before. Raises once for
- * each kind that is enabled and marked, since the line of a new host may never have seen it. A state that is not
- * reachable is restored all the same, and whether to go on is yours to say: vm-superio before 0.8.2 comes to such
- * states, and so does a port that was restored from one. Refused: more than 64 bytes. */
+ * each kind that is enabled and pending, since the line of a new host may never have seen it. A state that is not
+ * reachable is restored all the same, and whether to go on is yours to say: vm-superio comes to such states, and so
+ * may a port that was restored from one. No interrupt that was due is lost with them. Refused: more than 64 bytes. */
 static inline struct serialpost_restored serialpost_serial_restore(struct serialpost_serial *port,
                                                                    const struct serialpost_serial_saved *saved)
 {

@@ -33,6 +33,7 @@ uint32_t serialpost_raw_serial_write(uint8_t regs[16], uint32_t pos[4], uint8_t 
 uint32_t serialpost_raw_serial_input(uint8_t regs[16], uint32_t pos[4], uint8_t ring[1024], const uint8_t *input,
                                      uint64_t length);
 uint32_t serialpost_raw_serial_room(const uint32_t pos[4]);
+bool serialpost_raw_serial_line(const uint8_t regs[16], const uint32_t pos[4]);
 bool serialpost_raw_serial_play(uint8_t regs[16], uint32_t pos[4], uint8_t ring[1024], const uint8_t *ops,
                                 uint64_t ops_length, const uint8_t *inputs, uint64_t inputs_length, uint32_t *answers,
                                 uint64_t answers_length);

@@ -1,13 +1,16 @@
 #!/usr/bin/env python3
 """Lists of device accesses, told and checked.
 
-    lists.py tell REPLAY FILE       print each access beside what REPLAY answers
-    lists.py check REPLAY FILE...   hold what REPLAY answers to the answers in each FILE
+    lists.py tell REPLAY FILE          print each access beside what REPLAY answers
+    lists.py check REPLAY FILE...      hold what REPLAY answers to the answers in each FILE
+    lists.py original REPLAY FILE...   hold REPLAY, which is vm-superio or an account of it, to what each FILE says of it
 
-A line of a list is `access => answer`, or `access => answer | manual: answer` where the chip's manual would answer otherwise; `tell` takes
-a plain `access` too. Empty lines and lines that begin with `#` are for the reader. REPLAY is a program that speaks the replay format
-(docs/REPLAY.md). Exit status: 0 all as told, 1 some answer differs, 2 a list or REPLAY cannot be used.
+A line of a list is `access => answer`, or `access => answer | manual: answer` where the chip's manual would answer otherwise, or
+`access => answer | original: answer` where vm-superio does; `tell` takes a plain `access` too. Empty lines and lines that begin with `#` are for
+the reader. REPLAY is a program that speaks the replay format (docs/REPLAY.md), with its arguments if it has some. Exit status: 0 all as told,
+1 some answer differs, 2 a list or REPLAY cannot be used.
 """
+import os
 import subprocess
 import sys
 
@@ -16,7 +19,14 @@ class Trouble(Exception):
     """Something that is not an answer of the device: a bad file, a program that cannot be run."""
 
 
-def parsed(path):
+def told(answers, whose):
+    """Of `answer | manual: answer | original: answer` the one of `whose`, or else the first, which is ours."""
+    ours, *others = [answer.strip() for answer in answers.split("|")]
+    of_others = dict(other.split(": ", 1) for other in others if ": " in other)
+    return of_others.get(whose, ours)
+
+
+def parsed(path, whose="ours"):
     """The lines of a list as (text, access, answer); access is None for a reader's line, answer where none is told."""
     try:
         with open(path, encoding="ascii") as file:
@@ -28,8 +38,8 @@ def parsed(path):
         if not line or line.startswith("#"):
             rows.append((line, None, None))
             continue
-        access, arrow, rest = line.partition("=>")
-        rows.append((line, access.strip(), rest.partition("|")[0].strip() if arrow else None))
+        access, arrow, answers = line.partition("=>")
+        rows.append((line, access.strip(), told(answers, whose) if arrow else None))
     return rows
 
 
@@ -37,8 +47,9 @@ def answered(replay, rows):
     """What `replay` answers to each access of `rows`, in order."""
     accesses = [access for _, access, _ in rows if access is not None]
     text = "".join(access + "\n" for access in accesses)
+    command = [replay] if os.path.exists(replay) else replay.split() or [replay]
     try:
-        run = subprocess.run([replay], input=text.encode(), stdout=subprocess.PIPE, check=True)
+        run = subprocess.run(command, input=text.encode(), stdout=subprocess.PIPE, check=True)
     except (OSError, subprocess.CalledProcessError) as error:
         raise Trouble(f"{replay}: {error}")
     answers = run.stdout.decode("ascii", "replace").splitlines()
@@ -55,19 +66,19 @@ def tell(replay, path):
     return 0
 
 
-def check(replay, path):
+def check(replay, path, whose):
     """1 where an answer differs from the told one, with the first such line; else 0."""
-    rows = parsed(path)
-    for number, (_, access, told) in enumerate(rows, 1):
-        if access is not None and told is None:
+    rows = parsed(path, whose)
+    for number, (_, access, answer) in enumerate(rows, 1):
+        if access is not None and answer is None:
             raise Trouble(f"{path}:{number}: no `=>` between access and answer")
     answers = iter(answered(replay, rows))
-    for number, (_, access, told) in enumerate(rows, 1):
+    for number, (_, access, expected) in enumerate(rows, 1):
         if access is None:
             continue
         answer = next(answers)
-        if answer != told:
-            print(f"FAILED {path}:{number}: {access}: told `{told}`, answered `{answer}`")
+        if answer != expected:
+            print(f"FAILED {path}:{number}: {access}: told `{expected}`, answered `{answer}`")
             return 1
     print(f"ok {path}")
     return 0
@@ -76,11 +87,11 @@ def check(replay, path):
 def main(words):
     if len(words) == 3 and words[0] == "tell":
         return tell(words[1], words[2])
-    if len(words) >= 3 and words[0] == "check":
-        failed = sum([check(words[1], path) for path in words[2:]])
+    if len(words) >= 3 and words[0] in ("check", "original"):
+        failed = sum([check(words[1], path, words[0]) for path in words[2:]])
         print(f"lists: {len(words) - 2 - failed} passed, {failed} failed")
         return min(failed, 1)
-    raise Trouble("usage: lists.py tell REPLAY FILE | lists.py check REPLAY FILE...")
+    raise Trouble("usage: lists.py tell REPLAY FILE | lists.py check REPLAY FILE... | lists.py original REPLAY FILE...")
 
 
 if __name__ == "__main__":

@@ -233,7 +233,7 @@ def do_the_documents_hold_as_they_are():
 
 
 def is_a_row_without_a_list_seen():
-    return docs_status(lambda folder: os.remove(os.path.join(folder, "lists/differences/serial-two-kinds.list"))) == 1
+    return docs_status(lambda folder: os.remove(os.path.join(folder, "lists/differences/serial-thr-burst.list"))) == 1
 
 
 def is_a_constructor_without_a_row_seen():

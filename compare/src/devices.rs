@@ -24,6 +24,27 @@ pub struct SerialState {
     pub buffer: Vec<u8>,
 }
 
+impl SerialState {
+    /// How many bytes can wait.
+    pub const SIZE: usize = 64;
+
+    pub fn waits(&self) -> bool {
+        !self.buffer.is_empty()
+    }
+
+    pub fn room(&self) -> usize {
+        Self::SIZE.saturating_sub(self.buffer.len())
+    }
+
+    pub fn divisor_is_open(&self) -> bool {
+        self.registers[LCR] & 0x80 != 0
+    }
+
+    pub fn loops(&self) -> bool {
+        self.registers[MCR] & 0x10 != 0
+    }
+}
+
 /// The default is a fresh clock's.
 #[derive(Clone, Copy, Debug, Default, PartialEq, Eq)]
 pub struct ClockState {
@@ -44,10 +65,14 @@ pub trait Serial {
     fn state(&self) -> SerialState;
     /// Brings a state back, or answers none if it is refused because more bytes wait than there is room for.
     fn restore(&mut self, state: &SerialState) -> Option<Raised>;
+    /// Whether the interrupt line is high. The original cannot tell.
+    fn line(&self) -> Option<bool> {
+        None
+    }
     /// Whether a run from a fresh port could have reached the state. The original cannot tell: where it
     /// is compared this word is the account's.
     fn reaches(&self, state: &SerialState) -> bool {
-        reached::serial(state)
+        reached::original_serial(state)
     }
 }
 

@@ -7,11 +7,14 @@ use std::time::Duration;
 use crate::answerer::{lines, Answerer};
 use crate::command_line::Trouble;
 use crate::format::{asking_lines, is_passed_over, is_start};
+use crate::rows::Sides;
 use crate::shrink::{shrink, Line};
 
 pub struct Pair {
     pub left: Answerer,
     pub right: Answerer,
+    /// Whether the left one is vm-superio, and they are to differ in the rows.
+    pub rows: bool,
     /// How long an answerer may take for a list.
     pub limit: Duration,
 }
@@ -29,24 +32,29 @@ pub struct Difference {
 impl Pair {
     /// How the two differ on a list, if they do.
     pub fn compare(&self, list: &[u8]) -> Result<Option<Difference>, Trouble> {
-        let [left, right] = self.ask(list)?;
-        let Some(place) = first_difference(&left, &right) else {
+        let answers = self.ask(list)?;
+        let Some((place, why)) = self.first_fault(list, &answers) else {
             return Ok(None);
         };
         let asked: Vec<Line> = asking_lines(list).take(place + 1).map(Line::from).collect();
         let (run, shown) = match self.shortest(&asked) {
             Some(run) => {
-                let [left, right] = self.ask(&run.join(&b'\n'))?;
-                let shown = self.shown(&run, [&left, &right], 0);
-                let how_found = "the shortest run found that shows it";
-                (run, format!("{how_found}:\n{shown}"))
+                let list = run.join(&b'\n');
+                let answers = self.ask(&list)?;
+                let why = self.first_fault(&list, &answers).map(|(_, why)| why);
+                let shown = self.shown(&run, &answers, 0);
+                let why = why.unwrap_or_default();
+                (
+                    run,
+                    format!("the shortest run found that shows it:\n{shown}{why}"),
+                )
             }
             None => {
                 let start = asked.iter().rposition(|line| is_start(line)).unwrap_or(0);
                 let run = asked[start..].to_vec();
-                let shown = self.shown(&run, [&left, &right], start);
-                let why = "one of them is a record, or does not answer alike twice";
-                (run, format!("what was seen ({why}):\n{shown}"))
+                let shown = self.shown(&run, &answers, start);
+                let seen = "one of them is a record, or does not answer alike twice";
+                (run, format!("what was seen ({seen}):\n{shown}{why}"))
             }
         };
         Ok(Some(Difference {
@@ -66,14 +74,29 @@ impl Pair {
         })
     }
 
+    /// The first place where the answers are not as they should be, and what there is to say about it.
+    fn first_fault(&self, list: &[u8], [left, right]: &[Vec<u8>; 2]) -> Option<(usize, String)> {
+        let mut sides = self.rows.then(Sides::default);
+        let answers = lines(left).zip(lines(right)).enumerate();
+        let mut asked = asking_lines(list).zip(answers);
+        asked.find_map(|(line, (place, (left, right)))| match &mut sides {
+            None => (left != right).then_some((place, String::new())),
+            Some(sides) => {
+                let why = sides.fault(line, [left, right])?;
+                Some((place, format!("  ({why})\n")))
+            }
+        })
+    }
+
     /// The shortest run found, or none if the difference cannot be had again.
     fn shortest(&self, asked: &[Line]) -> Option<Vec<Line>> {
         if self.left.is_record || self.right.is_record {
             return None;
         }
         let mut differ = |run: &[Line]| {
-            let [left, right] = self.ask(&run.join(&b'\n')).ok()?;
-            first_difference(&left, &right)
+            let list = run.join(&b'\n');
+            let (place, _) = self.first_fault(&list, &self.ask(&list).ok()?)?;
+            Some(place)
         };
         // Mostly the end of a long list is enough. The last is the whole.
         let lengths = successors(Some(16), |length| Some(length * 4));
@@ -86,7 +109,7 @@ impl Pair {
     }
 
     /// Each line with its answer, and with the other one where they differ.
-    fn shown(&self, run: &[Line], [left, right]: [&[u8]; 2], skipped: usize) -> String {
+    fn shown(&self, run: &[Line], [left, right]: &[Vec<u8>; 2], skipped: usize) -> String {
         let answers = lines(left).zip(lines(right)).skip(skipped);
         let row = |(asked, (left, right)): (&Line, (&[u8], &[u8]))| {
             let row = format!("  {} => {}", readable(asked), readable(left));
@@ -97,13 +120,6 @@ impl Pair {
         };
         run.iter().zip(answers).map(row).collect()
     }
-}
-
-/// The first place where two answers are not the same bytes.
-fn first_difference(left: &[u8], right: &[u8]) -> Option<usize> {
-    lines(left)
-        .zip(lines(right))
-        .position(|(left, right)| left != right)
 }
 
 /// A line without its ending, unprintable bytes spelled out, and its middle left out if it is very long.

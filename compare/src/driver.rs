@@ -96,6 +96,7 @@ fn on_serial(
             (None, raised) => Words::start("b full").number(raised),
         },
         Room => Words::start("room").number(port.room()),
+        Line => Words::start("line").number(usize::from(port.line()?)),
         State => port_state("state", &port.state()),
         Save => port_state("save", kept.insert(port.state())),
         Restore => restore_port(port, kept.as_ref()?),

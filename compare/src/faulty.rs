@@ -1,9 +1,12 @@
 //! The account with one fault planted in it, to see that the judge finds it. What the account answers to
 //! a line, or the state that it leaves the device in, is changed for the worse.
 
-use crate::account::serial::{LSR_DATA_READY, RECEIVED_DATA, SIZE};
+use crate::account::ours::is_active;
+use crate::account::serial::{
+    Kind, IIR_NONE, KINDS, LSR_DATA_READY, RECEIVED_DATA, TRANSMITTER_EMPTY,
+};
 use crate::account::{clock::cut, reached, Account};
-use crate::devices::{ClockState, SerialState, IER, IIR, LCR, LSR, MCR, SCR};
+use crate::devices::{ClockState, SerialState, IIR, LSR, SCR};
 use crate::driver::Driver;
 use crate::format::{asking_lines, is_start, parse, Device, Operation, Operation::*, Words};
 
@@ -15,23 +18,35 @@ const I8042: Option<Device> = Some(Device::I8042);
 /// name it is asked for by, and what is wrong. A name that is misspelled below plants nothing, and the
 /// tests that look for the fault fail.
 #[rustfmt::skip]
-pub const FAULTS: [(Option<Device>, &str, &str); 28] = [
+pub const FAULTS: [(Option<Device>, &str, &str); 40] = [
     (SERIAL, "byte-65-replaces", "in loopback a byte that finds no room takes the place of the last one"),
     (SERIAL, "data-ready-stays", "LSR says that data is ready after the last byte was read"),
     (SERIAL, "data-ready-goes-early", "LSR says that no data is ready while bytes wait"),
     (SERIAL, "empty-input-raises", "a bulk input of 0 bytes raises an interrupt"),
-    (SERIAL, "raises-again", "received data is raised again though it is marked"),
     (SERIAL, "full-takes-none", "a full buffer takes 0 bytes instead of refusing"),
-    (SERIAL, "identify-keeps", "reading IIR does not reset it"),
     (SERIAL, "wires-swapped", "in loopback CTS follows DTR, and DSR follows RTS"),
     (SERIAL, "fresh-port-remembers", "a fresh port has the scratch register of the one before"),
+    (SERIAL, "raises-again", "received data is raised again though it is active"),
+    (SERIAL, "sends-again", "a byte sent raises the transmitter's interrupt though it is active"),
+    (SERIAL, "loop-sends-quietly", "a byte written in loopback does not signal the empty transmitter"),
+    (SERIAL, "enable-forgets-raise", "a write of IER does not raise received data"),
+    (SERIAL, "enable-signals-once", "a write of IER that leaves the transmitter enabled does not signal"),
+    (SERIAL, "priority-swapped", "of two kinds IIR shows the empty transmitter"),
+    (SERIAL, "two-at-once", "of two kinds IIR shows both"),
+    (SERIAL, "disabled-is-shown", "IIR shows received data that is not enabled"),
+    (SERIAL, "identify-keeps", "reading IIR does not reset the transmitter's interrupt"),
+    (SERIAL, "identify-resets-unseen", "reading IIR resets the transmitter's interrupt though it answers received data"),
+    (SERIAL, "fetch-resets", "reading the last byte resets the transmitter's interrupt"),
+    (SERIAL, "line-falls-early", "the line is low while received data is active alone"),
+    (SERIAL, "line-stays", "the line is high while a byte waits that is not enabled"),
     (SERIAL, "restore-drops-byte", "the last byte of a state is not brought back"),
     (SERIAL, "restore-forgets-raise", "where both kinds are to be raised again, only one is"),
     (SERIAL, "restore-doubles-raise", "received data is raised again twice"),
+    (SERIAL, "restore-raises-mark", "received data is raised again where it is marked and no byte waits"),
     (SERIAL, "restore-accepts-65", "of a state with 65 bytes 64 are brought back"),
     (SERIAL, "refusal-changes", "a state that is refused changes the scratch register"),
     (SERIAL, "reached-without-byte", "received data may be marked though no byte waits"),
-    (SERIAL, "reached-though-full", "received data may have been unmarked by a read though the buffer is full"),
+    (SERIAL, "reached-disabled", "the transmitter may be marked though it is not enabled"),
     (CLOCK, "sum-wraps", "a time that does not fit 32 bits wraps around"),
     (CLOCK, "clear-read-zeroes", "a read of 0x1c writes zeros into the caller's bytes"),
     (CLOCK, "identity-unaligned", "identity bytes answer at multiples of four only"),
@@ -51,11 +66,11 @@ pub fn answers(fault: &str, mut list: Vec<u8>) -> Vec<u8> {
     if fault == "reads-upper-case" {
         list.make_ascii_lowercase();
     }
-    let mut driver = Driver::new(Account::default());
+    let mut driver = Driver::new(Account::Ours);
     let mut answers = Vec::new();
     for line in asking_lines(&list) {
         if fault == "fresh-forgets-kept" && is_start(line) {
-            driver = Driver::new(Account::default());
+            driver = Driver::new(Account::Ours);
         }
         let before = driver.port();
         let answer = driver.answer(line);
@@ -114,36 +129,66 @@ impl Answered<'_> {
         self.answer = self.answer.replace(words, others);
     }
 
+    /// Says that so many interrupts more are raised. Their number is an answer's last digit.
+    fn raises(&mut self, more: i8) {
+        if let Some(place) = self.answer.rfind(|c: char| c.is_ascii_digit()) {
+            let digit = self.answer.as_bytes()[place].wrapping_add_signed(more);
+            let digit = char::from(digit).to_string();
+            self.answer.replace_range(place..=place, &digit);
+        }
+    }
+
     fn port(&mut self, before: &SerialState, mut after: SerialState) -> SerialState {
+        let [received, transmits] = KINDS.map(|kind| is_active(kind, before));
+        let [receives_now, transmits_now] = KINDS.map(|kind| is_active(kind, &after));
+        let (is_data, is_last) = (!before.divisor_is_open(), !after.waits());
         let (was, is) = (before.registers, &mut after.registers);
-        let is_data = was[LCR] & 0x80 == 0;
-        let looped = was[MCR] & 0x10 != 0;
         match (self.fault, &self.asked) {
-            ("byte-65-replaces", WriteByte(0, value)) if is_data && looped => {
-                if before.buffer.len() == SIZE {
-                    after.buffer[SIZE - 1] = *value;
-                }
+            ("byte-65-replaces", WriteByte(0, value))
+                if is_data && before.loops() && before.room() == 0 =>
+            {
+                after.buffer[63] = *value;
             }
             ("data-ready-stays", ReadByte(_)) => is[LSR] = was[LSR],
             ("data-ready-goes-early", ReadByte(0)) if is_data => is[LSR] &= !LSR_DATA_READY,
-            ("identify-keeps", ReadByte(2)) => is[IIR] = was[IIR],
-            ("wires-swapped", ReadByte(6)) if looped => {
-                let value = u8::from_str_radix(&self.answer[2..4], 16).unwrap_or(0);
-                let swapped = value & !0x30 | (value & 0x10) << 1 | (value & 0x20) >> 1;
-                self.says(&format!("r {swapped:02x} 0"));
-            }
-            ("fresh-port-remembers", Start(_)) => is[SCR] = was[SCR],
-            ("empty-input-raises", Input(bytes)) if bytes.is_empty() => self.says("b 0 1"),
-            ("raises-again", Input(_)) if RECEIVED_DATA.is_enabled(is[IER]) => {
-                if before.buffer.len() < after.buffer.len() {
-                    self.not(" 0\n", " 1\n");
-                }
-            }
+            ("empty-input-raises", Input(bytes)) if bytes.is_empty() => self.raises(1),
             ("full-takes-none", Input(_)) => self.not("full", "0"),
-            ("refusal-changes", RestoreSerial(state)) if self.answer == "restore full\n" => {
-                is[SCR] = state.registers[SCR]
+            ("wires-swapped", ReadByte(6)) if before.loops() => self.swaps_wires(),
+            ("fresh-port-remembers", Start(_)) => is[SCR] = was[SCR],
+            ("raises-again", Input(_)) if received && before.buffer.len() < after.buffer.len() => {
+                self.raises(1)
             }
-            ("restore-accepts-65", RestoreSerial(state)) if state.buffer.len() == SIZE + 1 => {
+            ("sends-again", WriteByte(0, _)) if is_data && transmits => self.raises(1),
+            ("loop-sends-quietly", WriteByte(0, _))
+                if before.loops() && !transmits && transmits_now =>
+            {
+                is[IIR] &= !TRANSMITTER_EMPTY.marked;
+                self.raises(-1);
+            }
+            ("enable-forgets-raise", WriteByte(1, _)) if !received && receives_now => {
+                self.raises(-1)
+            }
+            ("enable-signals-once", WriteByte(1, _))
+                if !transmits && transmits_now && TRANSMITTER_EMPTY.is_enabled(before) =>
+            {
+                is[IIR] &= !TRANSMITTER_EMPTY.marked;
+                self.raises(-1);
+            }
+            ("priority-swapped", ReadByte(2)) if received && transmits => {
+                is[IIR] = RECEIVED_DATA.marked;
+                self.says("r c2 0");
+            }
+            ("two-at-once", ReadByte(2)) if received && transmits => self.says("r c6 0"),
+            ("disabled-is-shown", ReadByte(2)) if before.waits() => self.says("r c4 0"),
+            ("identify-keeps", ReadByte(2)) => is[IIR] = was[IIR],
+            ("identify-resets-unseen", ReadByte(2)) if received => is[IIR] = RECEIVED_DATA.marked,
+            ("fetch-resets", ReadByte(0)) if is_data && is_last => is[IIR] = IIR_NONE,
+            ("line-falls-early", Line) if received && !transmits => self.says("line 0"),
+            ("line-stays", Line) if before.waits() => self.says("line 1"),
+            ("refusal-changes", RestoreSerial(state)) if self.answer == "restore full\n" => {
+                is[SCR] = state.registers[SCR];
+            }
+            ("restore-accepts-65", RestoreSerial(state)) if state.buffer.len() == 65 => {
                 after = state.clone();
                 after.buffer.pop();
                 self.says("restore 0 unreached");
@@ -154,26 +199,40 @@ impl Answered<'_> {
         after
     }
 
+    fn swaps_wires(&mut self) {
+        let value = u8::from_str_radix(&self.answer[2..4], 16).unwrap_or(0);
+        let swapped = value & !0x30 | (value & 0x10) << 1 | (value & 0x20) >> 1;
+        self.says(&format!("r {swapped:02x} 0"));
+    }
+
     fn brought_back(&mut self, port: &mut SerialState) {
-        match (self.fault, port.buffer.len()) {
-            ("restore-drops-byte", _) => drop(port.buffer.pop()),
-            ("restore-forgets-raise", _) => self.not("2", "1"),
-            ("restore-doubles-raise", _) if RECEIVED_DATA.is_raised(port) => {
-                self.not("2", "3");
-                self.not("1", "2");
+        let received = is_active(RECEIVED_DATA, port);
+        match self.fault {
+            "restore-drops-byte" => drop(port.buffer.pop()),
+            "restore-forgets-raise" if received => self.not("2", "1"),
+            "restore-doubles-raise" if received => self.raises(1),
+            "restore-raises-mark"
+                if RECEIVED_DATA.is_marked(port) && RECEIVED_DATA.is_enabled(port) && !received =>
+            {
+                self.raises(1)
             }
-            ("reached-without-byte", 0) => self.reached_as(&without_received_data(port)),
-            ("reached-though-full", SIZE) => {
-                let (registers, buffer) = (port.registers, vec![0; SIZE - 1]);
-                self.reached_as(&SerialState { registers, buffer });
+            "reached-without-byte" if !port.waits() => self.reached_without(RECEIVED_DATA, port),
+            "reached-disabled" if !TRANSMITTER_EMPTY.is_enabled(port) => {
+                self.reached_without(TRANSMITTER_EMPTY, port)
             }
             _ => {}
         }
     }
 
-    /// Says that the state was reached if the other was.
-    fn reached_as(&mut self, other: &SerialState) {
-        if reached::serial(other) {
+    /// Says that the state was reached, if it was without this kind's mark.
+    fn reached_without(&mut self, kind: Kind, port: &SerialState) {
+        let mut other = port.clone();
+        let iir = &mut other.registers[IIR];
+        *iir = match *iir & !kind.marked {
+            0 => IIR_NONE,
+            left => left,
+        };
+        if reached::serial(&other) {
             self.not("unreached", "reached");
         }
     }
@@ -214,16 +273,4 @@ impl Answered<'_> {
             self.says("w reset");
         }
     }
-}
-
-/// The same state, but that received data is not marked.
-fn without_received_data(state: &SerialState) -> SerialState {
-    let mut other = state.clone();
-    let iir = &mut other.registers[IIR];
-    *iir = match *iir {
-        0x04 => 0x01,
-        0x06 => 0x02,
-        iir => iir,
-    };
-    other
 }

@@ -34,6 +34,7 @@ pub enum Operation {
     ReadByte(u8),
     Input(Vec<u8>),
     Room,
+    Line,
     State,
     Save,
     Restore,
@@ -84,6 +85,7 @@ pub fn parse(line: &[u8]) -> Option<Operation> {
         [b"clock"] => Start(Device::Clock),
         [b"i8042"] => Start(Device::I8042),
         [b"room"] => Room,
+        [b"line"] => Line,
         [b"state"] => State,
         [b"save"] => Save,
         [b"now", time] => Now(decimal(time)?),
@@ -229,8 +231,14 @@ mod tests {
         for line in WELL_FORMED.lines() {
             assert!(parse(line.as_bytes()).is_some(), "{line}");
         }
-        for line in malformed::LINES.iter().chain(malformed::SAVES) {
-            assert_eq!(parse(line), None, "{}", line.escape_ascii());
+        for lines in [
+            malformed::LINES,
+            malformed::SAVES,
+            malformed::ABOUT_THE_LINE,
+        ] {
+            for line in lines {
+                assert_eq!(parse(line), None, "{}", line.escape_ascii());
+            }
         }
     }
 

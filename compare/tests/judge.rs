@@ -1,8 +1,8 @@
 //! Tests of the judge as a whole: that it finds every planted fault and shows it with a short run, that
 //! a single changed byte is not overlooked, and that trouble is not taken for agreement.
 
+use std::collections::{HashMap, HashSet};
 use std::fs;
-use std::os::unix::fs::PermissionsExt;
 use std::process::{Command, Output};
 use std::time::Duration;
 
@@ -12,6 +12,7 @@ use judge::faulty::FAULTS;
 use judge::format::{asking_lines, Device};
 use judge::generate::numbers::Numbers;
 use judge::generate::{exhaustive, format_cases, random, Options};
+use judge::rows::Sides;
 
 /// A file of its own for a test, with this text in it.
 fn file(name: &str, text: &[u8]) -> String {
@@ -22,16 +23,11 @@ fn file(name: &str, text: &[u8]) -> String {
     path.to_string_lossy().into_owned()
 }
 
-/// A program made for a test. It can call the account.
+/// A program made for a test, by name. It can call the account.
 fn script(name: &str, text: &str) -> String {
     let account = tools().unwrap().join("account");
-    let text = format!(
-        "#!/bin/sh\naccount() {{ '{}'; }}\n{text}\n",
-        account.display()
-    );
-    let path = file(name, text.as_bytes());
-    fs::set_permissions(&path, fs::Permissions::from_mode(0o755)).unwrap();
-    path
+    let text = format!("account() {{ '{}'; }}\n{text}\n", account.display());
+    format!("sh {}", file(name, text.as_bytes()))
 }
 
 fn compare(arguments: &[&str]) -> Output {
@@ -46,17 +42,30 @@ fn status(output: &Output) -> i32 {
 const LIMIT: Duration = Duration::from_secs(60);
 
 fn difference(left: &str, right: &str, list: &[u8]) -> Option<Difference> {
+    found(left, right, false, list)
+}
+
+fn found(left: &str, right: &str, rows: bool, list: &[u8]) -> Option<Difference> {
     let [left, right] = [left, right].map(|name| Answerer::named(name).unwrap());
     let limit = LIMIT;
-    let pair = Pair { left, right, limit };
+    let pair = Pair {
+        left,
+        right,
+        rows,
+        limit,
+    };
     pair.compare(list).unwrap()
 }
 
 /// Every planted fault can be shown in this many lines.
 const SHORT: usize = 6;
 
+/// A long list is asked in pieces, from its end on, until one shows the fault.
 fn is_found_in(list: &[u8], fault: &str) {
-    let found = difference("account", &format!("faulty {fault}"), list);
+    let lines: Vec<&[u8]> = list.split_inclusive(|&byte| byte == b'\n').collect();
+    let mut pieces = lines.chunks(100_000).rev().map(<[&[u8]]>::concat);
+    let faulty = format!("faulty {fault}");
+    let found = pieces.find_map(|piece| difference("account", &faulty, &piece));
     let found = found.unwrap_or_else(|| panic!("{fault} is not found"));
     assert!(found.length <= SHORT, "{fault} in\n{}", found.shown);
 }
@@ -83,6 +92,55 @@ fn the_exhaustive_lists_find_every_planted_fault_of_their_device() {
                 is_found_in(&list, fault);
             }
         }
+    }
+}
+
+#[test]
+fn beside_the_original_a_fault_is_a_difference_in_no_row_or_none_in_a_row() {
+    let both_kinds = b"serial\nw 01 03\nb 61\nr 02\n";
+    for same in ["account", "account --original"] {
+        let shown = found(same, same, true, both_kinds).unwrap().shown;
+        assert!(
+            shown.ends_with("(alike in original-two-kinds)\n"),
+            "{shown}"
+        );
+    }
+    let list = random::list(&Options::default(), 30_000, 1);
+    let beside = |right: &str| found("account --original", right, true, &list);
+    assert!(beside("account").is_none());
+    for (_, fault, _) in FAULTS {
+        // Whether a port could have been reached the original does not tell.
+        let is_told = !["reached-without-byte", "reached-disabled"].contains(&fault);
+        let is_found = beside(&format!("faulty {fault}")).is_some();
+        assert_eq!(is_found, is_told, "{fault}");
+    }
+}
+
+/// How often a list's lines are in these rows and no others. Answers may stand beside them.
+fn rows_met(list: &[u8]) -> HashMap<Vec<&'static str>, usize> {
+    let mut sides = Sides::default();
+    let mut met = HashMap::new();
+    for line in asking_lines(list) {
+        let mut words = line.split(|&byte| byte == b'=');
+        let access = words.next().unwrap_or_default().trim_ascii_end();
+        *met.entry(sides.rows(access)).or_insert(0) += 1;
+        sides.go_on(access);
+    }
+    met
+}
+
+#[test]
+fn each_row_is_met_and_has_a_list_that_shows_it() {
+    let met = rows_met(&random::list(&Options::default(), 100_000, 1));
+    let rows: HashSet<&str> = met.keys().flatten().copied().collect();
+    let folder = tools().unwrap().join("../../lists/original");
+    assert_eq!(rows.len(), fs::read_dir(&folder).unwrap().count());
+    for row in rows {
+        let alone = met.get(&vec![row]).copied().unwrap_or(0);
+        assert!(alone >= 5, "{row}: {alone} times");
+        let list = fs::read(folder.join(format!("{row}.list"))).unwrap();
+        let is_shown = rows_met(&list).keys().any(|rows| rows.contains(&row));
+        assert!(is_shown, "{row}");
     }
 }
 

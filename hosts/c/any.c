@@ -69,6 +69,26 @@ static bool spares_zero(const uint8_t *regs)
     return memcmp(regs + FIRST_SPARE, zero, sizeof zero) == 0;
 }
 
+/* Whether a kind is active: received data while a byte waits, the empty transmitter while its bit is stored. */
+static bool has_data(const uint8_t *regs, const uint32_t *pos)
+{
+    return (regs[SERIALPOST_IER] & 0x01) && pos[1] > 0;
+}
+
+static bool is_empty(const uint8_t *regs)
+{
+    return (regs[SERIALPOST_IER] & 0x02) && (regs[SERIALPOST_IIR] & 0x02);
+}
+
+/* Expects the raises of a call: one for each kind that is active now and was not before. */
+static void expect_raises(uint32_t answer, struct port port, const struct serialpost_serial *before)
+{
+    bool data = has_data(port.regs, port.pos), empty = is_empty(port.regs);
+    bool new_data = data && !has_data(before->regs, before->pos), new_empty = empty && !is_empty(before->regs);
+    EXPECT(answer / SERIALPOST_WORD_RAISE == (uint32_t)new_data + new_empty);
+    EXPECT(serialpost_raw_serial_line(port.regs, port.pos) == (data || empty));
+}
+
 static uint8_t any_offset(void)
 {
     return (uint8_t)(once_in(4) ? any() : any() % 9);
@@ -80,6 +100,9 @@ static void any_read(struct port port)
     uint8_t offset = any_offset();
     uint32_t answer = serialpost_raw_serial_read(PARTS(&port), offset);
     EXPECT(answer <= 0xff);
+    uint8_t code = has_data(before.regs, before.pos) ? 0x04 : is_empty(before.regs) ? 0x02 : 0x01;
+    EXPECT(offset != SERIALPOST_IIR || answer == (0xc0u | code));
+    expect_raises(answer, port, &before);
     EXPECT(memcmp(port.ring, before.ring, RING) == 0 && spares_kept(port, &before));
     EXPECT(offset < 8 || (answer == 0 && is(port, &before)));
 }
@@ -90,7 +113,7 @@ static void any_write(struct port port)
     uint8_t offset = any_offset();
     uint8_t value = (uint8_t)any();
     uint32_t answer = serialpost_raw_serial_write(PARTS(&port), offset, value);
-    EXPECT(answer / SERIALPOST_WORD_RAISE <= (offset == SERIALPOST_IER ? 2 : 1));
+    expect_raises(answer, port, &before);
     uint32_t sent = answer % SERIALPOST_WORD_RAISE;
     EXPECT(sent == 0 || sent == (uint32_t)(SERIALPOST_WORD_SENDS | value));
     EXPECT(spares_kept(port, &before));
@@ -105,7 +128,7 @@ static void any_input(struct port port, struct fenced input)
     uint32_t answer = serialpost_raw_serial_input(PARTS(&port), lent(input, length), length);
     uint32_t taken = answer & SERIALPOST_WORD_NUMBER;
     EXPECT(taken <= room && taken <= length);
-    EXPECT(answer / SERIALPOST_WORD_RAISE <= 1);
+    expect_raises(answer, port, &before);
     EXPECT(serialpost_raw_serial_room(port.pos) == room - taken);
     EXPECT((answer & 0xff0000) == 0 || (room == 0 && answer == SERIALPOST_WORD_REFUSED));
     EXPECT(spares_kept(port, &before));
@@ -146,12 +169,9 @@ static void any_saved(uint8_t *regs, size_t length)
  * spare one. */
 static bool run_leaves_port(const uint8_t *regs, size_t length)
 {
-    uint8_t enabled = regs[SERIALPOST_IER], marked = regs[SERIALPOST_IIR];
-    bool marks = marked == 1 || marked == 2 || (length > 0 && (marked == 4 || marked == 6));
-    bool transmitter_read = (enabled & 3) != 2 || marked != 4;
-    bool receiver_read = (enabled & 3) != 1 || marked != 2 || length < 64;
-    return enabled < 16 && marks && transmitter_read && receiver_read && regs[SERIALPOST_LSR] == (length > 0 ? 0x61 : 0x60)
-           && regs[SERIALPOST_MSR] == 0xb0 && spares_zero(regs);
+    uint8_t active = ((regs[SERIALPOST_IER] & 0x01) && length > 0 ? 0x04 : 0) | (is_empty(regs) ? 0x02 : 0);
+    return regs[SERIALPOST_IER] < 16 && regs[SERIALPOST_IIR] == (active ? active : 0x01)
+           && regs[SERIALPOST_LSR] == (length > 0 ? 0x61 : 0x60) && regs[SERIALPOST_MSR] == 0xb0 && spares_zero(regs);
 }
 
 /* Restores a port. Answers whether a run could have come to it. */
@@ -168,10 +188,10 @@ static bool any_restore(struct port port, struct port kept, struct fenced input)
         EXPECT(answer == SERIALPOST_WORD_REFUSED && is(port, &before));
         return false;
     }
-    uint8_t enabled = regs[SERIALPOST_IER], marked = regs[SERIALPOST_IIR];
-    uint32_t raises = ((enabled & 2) && (marked & 2)) + ((enabled & 1) && (marked & 4));
+    uint32_t raises = (uint32_t)has_data(port.regs, port.pos) + is_empty(port.regs);
     bool reached = run_leaves_port(regs, length);
     EXPECT(answer == raises * SERIALPOST_WORD_RAISE + (reached ? SERIALPOST_WORD_REACHABLE : 0));
+    EXPECT(serialpost_raw_serial_line(port.regs, port.pos) == (raises > 0));
     EXPECT(memcmp(port.regs, regs, REGS) == 0 && port.pos[2] == before.pos[2] && port.pos[3] == before.pos[3]);
     EXPECT(serialpost_raw_serial_save(PARTS(&port), again.regs, again.waiting) == length);
     EXPECT(memcmp(again.regs, regs, REGS) == 0 && memcmp(again.waiting, waiting, length) == 0);

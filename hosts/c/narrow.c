@@ -15,6 +15,7 @@
 uint64_t whole_serial_read(uint8_t *regs, uint32_t *pos, const uint8_t *ring, uint64_t offset) WHOLE(serial_read);
 uint64_t whole_serial_write(uint8_t *regs, uint32_t *pos, uint8_t *ring, uint64_t offset, uint64_t value)
     WHOLE(serial_write);
+uint64_t whole_serial_line(const uint8_t *regs, const uint32_t *pos) WHOLE(serial_line);
 uint64_t whole_serial_play(uint8_t *regs, uint32_t *pos, uint8_t *ring, const uint8_t *ops, size_t ops_length,
                            const uint8_t *inputs, size_t inputs_length, uint32_t *answers, size_t answers_length)
     WHOLE(serial_play);
@@ -56,6 +57,7 @@ static void serial_accesses(void)
     struct serialpost_read read = serialpost_serial_read(&port, offset);
     EXPECT((uint32_t)whole_serial_read(PARTS(&same), any_above(8, offset)) == read.reply + read.raises * 0x1000000);
     EXPECT(memcmp(&port, &same, sizeof port) == 0);
+    EXPECT(is_bool(whole_serial_line(port.regs, port.pos), serialpost_serial_line(&port)));
 }
 
 /* A run of one operation, which half of the time is none. */

@@ -80,6 +80,33 @@ static void output_is_sent(void)
     EXPECT(write_at(&port, SERIALPOST_SCR, 'z') == 0);
 }
 
+/* The priority, what a read of IIR resets, and the level of the line. */
+static void two_kinds_are_told_one_after_the_other(void)
+{
+    struct serialpost_serial port = fresh_port();
+    type_in(&port, "a", 1);
+    EXPECT(!serialpost_serial_line(&port) && read_at(&port, SERIALPOST_IIR) == 0xc1);
+    EXPECT(write_at(&port, SERIALPOST_IER, 0x03) == 2);
+    EXPECT(serialpost_serial_line(&port));
+    EXPECT(read_at(&port, SERIALPOST_IIR) == 0xc4 && read_at(&port, SERIALPOST_IIR) == 0xc4);
+    EXPECT(read_at(&port, SERIALPOST_RBR) == 'a' && serialpost_serial_line(&port));
+    EXPECT(read_at(&port, SERIALPOST_IIR) == 0xc2);
+    EXPECT(!serialpost_serial_line(&port) && read_at(&port, SERIALPOST_IIR) == 0xc1);
+}
+
+/* What the header tells of a driver that reads one byte for each interrupt. */
+static void a_third_byte_holds_the_line_high_and_raises_nothing(void)
+{
+    struct serialpost_serial port = fresh_port();
+    write_at(&port, SERIALPOST_IER, 0x01);
+    EXPECT(!serialpost_serial_line(&port));
+    EXPECT(type_in(&port, "ab", 2).raises == 1);
+    EXPECT(read_at(&port, SERIALPOST_RBR) == 'a');
+    EXPECT(type_in(&port, "c", 1).raises == 0 && serialpost_serial_line(&port));
+    EXPECT(read_at(&port, SERIALPOST_RBR) == 'b' && serialpost_serial_line(&port));
+    EXPECT(read_at(&port, SERIALPOST_RBR) == 'c' && !serialpost_serial_line(&port));
+}
+
 static void a_full_port_refuses(void)
 {
     struct serialpost_serial port = fresh_port();
@@ -167,17 +194,19 @@ static void a_console_moves_to_another_host(void)
     EXPECT(read_at(&there, SERIALPOST_LSR) == 0x60);
 }
 
-static void what_is_enabled_and_marked_is_raised_again(void)
+static void what_is_enabled_and_pending_is_raised_again(void)
 {
     struct serialpost_serial port = fresh_port();
     struct serialpost_serial_saved saved = saved_from(&port);
     for (uint8_t ier = 0; ier < 4; ier++)
-        for (uint8_t iir = 0; iir < 8; iir++) {
-            saved.regs[SERIALPOST_IER] = ier;
-            saved.regs[SERIALPOST_IIR] = iir;
-            uint32_t transmitter = (ier & 0x02) && (iir & 0x02), received = (ier & 0x01) && (iir & 0x04);
-            EXPECT(serialpost_serial_restore(&port, &saved).raises == transmitter + received);
-        }
+        for (uint8_t iir = 0; iir < 8; iir++)
+            for (saved.count = 0; saved.count < 2; saved.count++) {
+                saved.regs[SERIALPOST_IER] = ier;
+                saved.regs[SERIALPOST_IIR] = iir;
+                uint32_t transmitter = (ier & 0x02) && (iir & 0x02), received = (ier & 0x01) && saved.count > 0;
+                EXPECT(serialpost_serial_restore(&port, &saved).raises == transmitter + received);
+                EXPECT(serialpost_serial_line(&port) == (transmitter + received > 0));
+            }
 }
 
 static void a_state_that_no_run_comes_to_is_restored_and_told(void)
@@ -373,11 +402,13 @@ int main(void)
     a_fresh_port();
     input_is_read_in_order();
     output_is_sent();
+    two_kinds_are_told_one_after_the_other();
+    a_third_byte_holds_the_line_high_and_raises_nothing();
     a_full_port_refuses();
     the_loop_returns_what_is_written();
     a_run_is_the_calls_one_after_another();
     a_console_moves_to_another_host();
-    what_is_enabled_and_marked_is_raised_again();
+    what_is_enabled_and_pending_is_raised_again();
     a_state_that_no_run_comes_to_is_restored_and_told();
     a_65th_byte_is_refused_and_nothing_changes();
     a_port_is_kept_as_bytes();

@@ -1,5 +1,6 @@
 //! Drives vm-superio and this crate through the same lists, by the judge's monitor, with the same faults of the host,
-//! and compares what each call returns and what it does to the host, in order.
+//! and compares what each call returns and what it does to the host, in order. They differ exactly in the judge's rows:
+//! in what a read of IIR answers, and in how often the interrupt is raised.
 
 #[path = "../../compare/src/original/host.rs"]
 mod host;
@@ -14,8 +15,16 @@ mod ours {
     use serialpost as api;
     include!("../../compare/src/original/monitor.rs");
     include!("clock_events.rs");
+
+    /// Whether the interrupt line of this port is high.
+    pub fn is_high(port: &SerialState) -> bool {
+        let [line, sink] = [0, 1].map(|_| Wire(Rc::default()));
+        let restored = api::Serial::from_state(&port_state(port), line, NoEvents, sink);
+        restored.is_ok_and(|port| port.interrupt_line())
+    }
 }
 
+use std::collections::HashMap;
 use std::process::ExitCode;
 use std::rc::Rc;
 
@@ -25,6 +34,7 @@ use judge::driver::Driver;
 use judge::format::{self, Operation};
 use judge::generate::numbers::Numbers;
 use judge::generate::{exhaustive, random, Options};
+use judge::rows::{Sides, ROWS};
 
 /// One operation in so many meets a fault of each kind.
 const FAULT_ONCE_IN: usize = 4;
@@ -43,6 +53,7 @@ struct Met {
     restores: Restores,
     reachable: usize,
     unreachable: usize,
+    rows: HashMap<&'static str, usize>,
 }
 
 /// What came of states that were to be brought back.
@@ -84,7 +95,14 @@ impl Met {
         self.neither += usize::from(not_raised && sends && (faults.write || faults.flush));
     }
 
+    fn note_rows(&mut self, rows: &[&'static str]) {
+        for row in rows {
+            *self.rows.entry(row).or_default() += 1;
+        }
+    }
+
     fn lacks_something(&self) -> bool {
+        let met = self.rows.values().filter(|&&times| times >= 10).count();
         let least = [
             self.sent,
             self.raised,
@@ -100,15 +118,19 @@ impl Met {
             self.reachable,
             self.unreachable,
         ];
-        least.iter().any(|&times| times < 10)
+        least.iter().any(|&times| times < 10) || met != ROWS
     }
 }
 
-/// Both, each with its host.
+/// What a line was answered, and what that did to the host.
+type Done = (String, Vec<Event>);
+
+/// Both, each with its host, and the judge's accounts of them.
 struct Pair {
     hosts: [Rc<Host>; 2],
     original: Driver<original::Monitor>,
     ours: Driver<ours::Monitor>,
+    sides: Sides,
 }
 
 impl Pair {
@@ -118,27 +140,69 @@ impl Pair {
             original: Driver::new(original::Monitor(hosts[0].clone())),
             ours: Driver::new(ours::Monitor(hosts[1].clone())),
             hosts,
+            sides: Sides::default(),
         }
     }
 
-    /// Has both answer the line under these faults. Answers what the original did to its host, or how they differ.
-    fn answer(&mut self, line: &[u8], faults: Faults) -> Result<Vec<Event>, String> {
+    /// Has both answer the line under these faults.
+    fn ask(&mut self, line: &[u8], faults: Faults) -> [Done; 2] {
         for host in &self.hosts {
             host.faults.set(faults);
             host.events.take();
         }
-        let answers = [self.original.answer(line), self.ours.answer(line)];
-        let [wanted, found] = [0, 1].map(|i| {
+        let answers = [self.original.answer(line), self.answer_of_ours(line)];
+        [0, 1].map(|i| {
             let answer = String::from_utf8_lossy(&answers[i]).into_owned();
             (answer, self.hosts[i].events.take())
-        });
-        if wanted != found {
-            return Err(format!(
-                "vm-superio: {wanted:?}\nserialpost: {found:?}\nunder {faults:?}"
-            ));
-        }
-        Ok(wanted.1)
+        })
     }
+
+    /// The level of the line only this crate tells, so the monitor does not ask for it.
+    fn answer_of_ours(&mut self, line: &[u8]) -> Vec<u8> {
+        match (format::parse(line), self.ours.port()) {
+            (Some(Operation::Line), Some(port)) => {
+                format!("line {}\n", u8::from(ours::is_high(&port))).into_bytes()
+            }
+            _ => self.ours.answer(line),
+        }
+    }
+
+    /// Has both answer the line, and goes on to the next. They are to differ where the rows say so. What they do to
+    /// their hosts is the same, but for the raises where the answers differ.
+    fn answer(&mut self, line: &[u8], faults: Faults) -> Result<[Done; 2], String> {
+        let done = self.ask(line, faults);
+        let [original, ours] = &done;
+        let answers = [original.0.as_bytes(), ours.0.as_bytes()];
+        if let Some(why) = self.sides.fault(line, answers) {
+            return Err(told(&why, &done, faults));
+        }
+        let is_same = match original.0 == ours.0 {
+            true => original.1 == ours.1,
+            false => without_raises(&original.1) == without_raises(&ours.1),
+        };
+        match is_same {
+            true => Ok(done),
+            false => Err(told("the host is told differently", &done, faults)),
+        }
+    }
+
+    /// Has both do what they did just now once more, under faults.
+    fn again(&mut self, line: &[u8], faults: Faults) -> Result<[Done; 2], String> {
+        let done = self.ask(line, faults);
+        match done[0] == done[1] {
+            true => Ok(done),
+            false => Err(told("different the second time", &done, faults)),
+        }
+    }
+}
+
+fn without_raises(events: &[Event]) -> Vec<&Event> {
+    let others = events.iter().filter(|event| **event != Event::Raised);
+    others.collect()
+}
+
+fn told(why: &str, [original, ours]: &[Done; 2], faults: Faults) -> String {
+    format!("{why}\nvm-superio: {original:?}\nserialpost: {ours:?}\nunder {faults:?}")
 }
 
 /// Whether a run comes to a state only this crate can tell. It is compared with the judge's account, for each state
@@ -170,20 +234,31 @@ fn drive(list: &[u8], seed: u64, met: &mut Met) -> Result<(), String> {
         let Some(operation) = format::parse(line) else {
             continue;
         };
-        // A write that may announce two kinds: where raising the first fails vm-superio leaves the second out, ours
-        // does not (the README has it among what is different). So the first does not fail there.
-        let announces = matches!(operation, Operation::WriteByte(1, _));
+        // A write that may raise for two kinds: where raising the first fails vm-superio leaves the second out, ours
+        // does not (the README has it among what is different). So the first does not fail there, and in a row, where
+        // the two raise differently, none does.
+        let rows = pair.sides.rows(line);
+        let is_ier = matches!(operation, Operation::WriteByte(1, _));
         let faults = Faults {
             line: [
-                numbers.once_in(FAULT_ONCE_IN) && !announces,
-                numbers.once_in(FAULT_ONCE_IN),
+                numbers.once_in(FAULT_ONCE_IN) && !is_ier && rows.is_empty(),
+                numbers.once_in(FAULT_ONCE_IN) && rows.is_empty(),
             ],
             write: numbers.once_in(FAULT_ONCE_IN),
             flush: numbers.once_in(FAULT_ONCE_IN),
         };
         let here = |why| format!("line {} of seed {seed}: {operation:?}\n{why}", number + 1);
-        let events = pair.answer(line, faults).map_err(here)?;
-        met.note(&operation, faults, &events);
+        // Where a restore fails there is no new port. So it is done without faults first, and once more with them where
+        // both raise alike.
+        let restores = operation.brings_back();
+        let first = if restores { Faults::default() } else { faults };
+        let done = pair.answer(line, first).map_err(here)?;
+        met.note(&operation, first, &done[0].1);
+        met.note_rows(&rows);
+        if restores && done[0] == done[1] {
+            let done = pair.again(line, faults).map_err(here)?;
+            met.note(&operation, faults, &done[0].1);
+        }
         told_apart(&operation, met).map_err(here)?;
     }
     Ok(())

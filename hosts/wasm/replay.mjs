@@ -41,6 +41,7 @@ class SerialLines {
             return `b ${isRefused(answer) ? "full" : numberOf(answer)} ${raisesOf(answer)}`;
         }],
         [/^room$/, () => `room ${this.port.room()}`],
+        [/^line$/, () => `line ${this.port.line() ? 1 : 0}`],
         [/^state$/, () => `state ${portText(this.port.save())}`],
         [/^save$/, () => `save ${portText((this.kept = this.port.save()))}`],
         [/^restore$/, () => (this.kept ? this.restored(this.kept) : NO_OPERATION)],

@@ -4,14 +4,14 @@
 
 const CALLS = [
     "version",
-    "serial_init", "serial_read", "serial_write", "serial_input", "serial_room", "serial_play",
+    "serial_init", "serial_read", "serial_write", "serial_input", "serial_room", "serial_line", "serial_play",
     "serial_save", "serial_restore", "serial_encode", "serial_decode",
     "clock_init", "clock_read", "clock_write", "clock_save", "clock_restore", "clock_encode", "clock_decode",
     "i8042_read", "i8042_write",
 ].map((name) => `serialpost_raw_${name}`);
 
 /** The interface that this file is written for. */
-const VERSION = 1;
+const VERSION = 2;
 
 const PAGE = 65536;
 const REGS_SIZE = 16;
@@ -122,6 +122,11 @@ export class SerialPort {
 
     room() {
         return this.library.calls.serialpost_raw_serial_room(this.pos) >>> 0;
+    }
+
+    /** Whether the interrupt line is high. */
+    line() {
+        return this.library.calls.serialpost_raw_serial_line(this.regs, this.pos) !== 0;
     }
 
     /** The answers to all operations of a run, or undefined where `ops` and `inputs` are no run. */

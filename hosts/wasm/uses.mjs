@@ -135,6 +135,18 @@ function devicesAreSavedAndRestored(library) {
     expect(hexOf(another.read(0, 1010n, [0, 0, 0, 0]).bytes), "0f000000", "a restored clock's time");
 }
 
+// ---- The level of the line
+
+function theLineIsHighWhileAByteWaits(library) {
+    const port = new SerialPort(library);
+    port.input([0x61]);
+    expect(port.line(), false, "the line while no interrupt is enabled");
+    port.write(1, 1);
+    expect(port.line(), true, "the line while a byte waits");
+    port.read(0);
+    expect(port.line(), false, "the line once it is read");
+}
+
 // ---- Narrow arguments
 
 function upperBitsOfBytesDoNotCount(library) {
@@ -179,6 +191,7 @@ function main(words) {
     formsAreAsRecorded(library);
     statesWithoutAFormAreRefused(library);
     devicesAreSavedAndRestored(library);
+    theLineIsHighWhileAByteWaits(library);
     upperBitsOfBytesDoNotCount(library);
     upperBitsOfClockOffsetsDoNotCount(library);
     expect(sorted(called), sorted(exported), "the functions that were called");

@@ -19,7 +19,7 @@ pub(crate) fn cut(now: u64) -> u32 {
 }
 
 #[derive(Default)]
-pub struct Clock(pub(crate) ClockState);
+pub struct Clock(ClockState);
 
 impl Clock {
     fn time(&self, now: u32) -> u32 {

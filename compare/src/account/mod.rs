@@ -1,23 +1,35 @@
-//! The account: what vm-superio 0.8.2 does, written from a description of its behaviour and not from
-//! its source. It is a second witness beside the original, and the only one where the
-//! original's source is not at hand.
+//! The account: what our devices do, and what vm-superio's do, each written from a description of its
+//! behaviour and not from its source. It is a second witness beside each, and the only one of the
+//! original where its source is not at hand. They differ in the interrupts of the serial port only.
 
 pub mod clock;
+pub mod original;
+pub mod ours;
 pub mod reached;
 pub mod serial;
 
 use crate::devices::{self, Devices};
+use original::Original;
+use ours::Ours;
+use serial::Serial;
 
-#[derive(Clone, Copy, Default)]
-pub struct Account {
-    /// Whether a write of the interrupt enable register is only stored, as in every version before
-    /// 0.8.2. Since then it announces what is pending.
-    pub quiet_enable: bool,
+/// Whose ways the serial port's interrupts have.
+#[derive(Clone, Copy)]
+pub enum Account {
+    Ours,
+    /// vm-superio 0.8.2's.
+    Original,
+    /// Those of versions before.
+    QuietEnable,
 }
 
 impl Devices for Account {
     fn serial(&mut self) -> Box<dyn devices::Serial> {
-        Box::new(serial::Serial::fresh(self.quiet_enable))
+        let quiet_enable = matches!(self, Account::QuietEnable);
+        match self {
+            Account::Ours => Box::new(Serial::fresh(Ours)),
+            _ => Box::new(Serial::fresh(Original { quiet_enable })),
+        }
     }
 
     fn clock(&mut self) -> Box<dyn devices::Clock> {

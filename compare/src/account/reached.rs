@@ -1,42 +1,17 @@
-//! Which states a run from a fresh device comes to. The original cannot tell: where it answers, this word
-//! is the account's too.
+//! Which states a run from a fresh device comes to.
 
-use super::serial::{LSR_DATA_READY, RECEIVED_DATA, SIZE, TRANSMITTER_EMPTY};
-use crate::devices::{ClockState, SerialState, IER, IIR, LSR, MSR};
-
-const LSR_FRESH: u8 = 0x60;
-const MSR_FRESH: u8 = 0xb0;
+use super::original::Original;
+use super::ours::Ours;
+use super::serial::reaches;
+use crate::devices::{ClockState, SerialState};
 
 pub fn serial(state: &SerialState) -> bool {
-    let waiting = state.buffer.len();
-    let lsr = match waiting {
-        0 => LSR_FRESH,
-        _ => LSR_FRESH | LSR_DATA_READY,
-    };
-    let (ier, iir) = (state.registers[IER], state.registers[IIR]);
-    state.registers[LSR] == lsr
-        && state.registers[MSR] == MSR_FRESH
-        && waiting <= SIZE
-        && ier < 0x10
-        && marks(ier, iir, waiting)
+    reaches(&Ours, state)
 }
 
-/// Whether IER and IIR can come together while so many bytes wait. A write of IER marks what it enables,
-/// so each kind that could be marked and is not was unmarked since, by a read.
-fn marks(ier: u8, iir: u8, waiting: usize) -> bool {
-    let receives = RECEIVED_DATA.is_enabled(ier);
-    let transmits = TRANSMITTER_EMPTY.is_enabled(ier);
-    match iir {
-        0x01 => true,
-        // The read that unmarked received data took a byte away. Had it been the read of IIR, nothing
-        // would have marked the transmitter again, which is not enabled.
-        0x02 => !receives || transmits || waiting < SIZE,
-        // The read of IIR that unmarked the transmitter unmarked received data too: that was marked
-        // again since, and so is enabled.
-        0x04 => waiting > 0 && (receives || !transmits),
-        0x06 => waiting > 0,
-        _ => false,
-    }
+/// The same of vm-superio's port. It cannot tell: where it answers, this word is the account's too.
+pub fn original_serial(state: &SerialState) -> bool {
+    reaches(&Original::default(), state)
 }
 
 /// The match register is not looked at: any value can be written.
@@ -58,11 +33,11 @@ mod tests {
 
     /// All ports that operations lead to from a fresh one, where the bytes are zeros and of the registers
     /// that no interrupt depends on only the loop is changed.
-    fn all_met() -> HashSet<SerialState> {
+    fn all_met(account: Account) -> HashSet<SerialState> {
         let mut lines: Vec<String> = (0..0x10).map(|value| format!("w 01 {value:02x}")).collect();
         lines.extend(["w 00 00", "w 04 10", "w 04 08", "r 00", "r 02", "b 00"].map(String::from));
-        lines.push(format!("b {}", "00".repeat(SIZE)));
-        let mut driver = Driver::new(Account::default());
+        lines.push(format!("b {}", "00".repeat(64)));
+        let mut driver = Driver::new(account);
         driver.answer(b"serial");
         let mut left = vec![driver.port().unwrap()];
         let mut met = HashSet::from_iter(left.clone());
@@ -82,7 +57,12 @@ mod tests {
 
     #[test]
     fn a_port_is_reached_if_and_only_if_operations_lead_to_it() {
-        let met = all_met();
+        is_exact(Account::Ours, serial);
+        is_exact(Account::Original, original_serial);
+    }
+
+    fn is_exact(account: Account, is_reached: fn(&SerialState) -> bool) {
+        let met = all_met(account);
         let mut reached = 0;
         for waiting in 0..=65 {
             for (ier, iir) in (0..0x20).flat_map(|ier| (0..=0xff).map(move |iir| (ier, iir))) {
@@ -90,8 +70,8 @@ mod tests {
                     let registers = [0x0c, 0x00, ier, iir, 0x03, lsr, 0x08, msr, 0x00];
                     let buffer = vec![0; waiting];
                     let state = SerialState { registers, buffer };
-                    assert_eq!(serial(&state), met.contains(&state), "{state:?}");
-                    reached += usize::from(serial(&state));
+                    assert_eq!(is_reached(&state), met.contains(&state), "{state:?}");
+                    reached += usize::from(is_reached(&state));
                 }
             }
         }
@@ -102,17 +82,17 @@ mod tests {
     #[test]
     fn what_no_interrupt_depends_on_may_be_anything() {
         for value in [0xff, 0x00] {
-            let mut state = Account::default().serial().state();
+            let mut state = Account::Ours.serial().state();
             for free in [0, 1, 4, 6, 8] {
                 state.registers[free] = value;
             }
-            assert!(serial(&state), "{state:?}");
+            assert!(serial(&state) && original_serial(&state), "{state:?}");
         }
     }
 
     /// A clock that was set to `load`, with the mask and the match register written.
     fn set(load: u32, now: u32) -> ClockState {
-        let mut clock = Account::default().clock();
+        let mut clock = Account::Ours.clock();
         for (offset, value) in [(0x08, load), (0x10, 1), (0x04, 7)] {
             clock.write(u64::from(now), offset, &u32::to_le_bytes(value));
         }

@@ -1,206 +1,216 @@
-//! The serial port of the account.
+//! The serial port of the account. Its interrupts have two ways: ours (`ours`) and the original's
+//! (`original`). All else is the same.
 
-use crate::devices::{self, Raised, Serial as _, SerialState};
+use crate::devices::{self, Raised, SerialState};
 use crate::devices::{DLL, DLM, IER, IIR, LCR, LSR, MCR, MSR, SCR};
 
-pub(crate) const SIZE: usize = 64;
-
-const IIR_NONE: u8 = 0x01;
 const IIR_SHOWN: u8 = 0xc0;
-const LCR_DLAB: u8 = 0x80;
-const MCR_LOOPBACK: u8 = 0x10;
+pub(crate) const IIR_NONE: u8 = 0x01;
 pub(crate) const LSR_DATA_READY: u8 = 0x01;
+const LSR_FRESH: u8 = 0x60;
+const MSR_FRESH: u8 = 0xb0;
 
 /// A kind of interrupt: its bit in IER, and its bit in IIR.
-pub(crate) struct Kind {
-    enabled: u8,
-    marked: u8,
+#[derive(Clone, Copy, PartialEq, Eq)]
+pub struct Kind {
+    pub(crate) enabled: u8,
+    pub(crate) marked: u8,
 }
-pub(crate) const RECEIVED_DATA: Kind = Kind {
+pub const RECEIVED_DATA: Kind = Kind {
     enabled: 0x01,
     marked: 0x04,
 };
-pub(crate) const TRANSMITTER_EMPTY: Kind = Kind {
+pub const TRANSMITTER_EMPTY: Kind = Kind {
     enabled: 0x02,
     marked: 0x02,
 };
+pub const KINDS: [Kind; 2] = [RECEIVED_DATA, TRANSMITTER_EMPTY];
 
 impl Kind {
-    pub(crate) fn is_enabled(&self, ier: u8) -> bool {
-        ier & self.enabled != 0
+    pub fn is_enabled(self, port: &SerialState) -> bool {
+        port.registers[IER] & self.enabled != 0
     }
 
-    fn is_marked(&self, iir: u8) -> bool {
-        iir & self.marked != 0
+    pub fn is_marked(self, port: &SerialState) -> bool {
+        port.registers[IIR] & self.marked != 0
     }
+}
 
-    /// Whether it is enabled and marked in a state.
-    pub(crate) fn is_raised(&self, state: &SerialState) -> bool {
-        self.is_enabled(state.registers[IER]) && self.is_marked(state.registers[IIR])
-    }
+/// What a port's interrupts do.
+pub trait Way {
+    /// Whether a kind stands. It is raised as it begins to.
+    fn stands(&self, kind: Kind, port: &SerialState) -> bool;
+    /// Bytes came; some may have waited before.
+    fn received(&self, port: &mut SerialState, waited: bool);
+    /// RBR was read.
+    fn fetched(&self, port: &mut SerialState);
+    /// THR is written; the byte has gone nowhere yet.
+    fn transmits(&self, port: &mut SerialState);
+    /// IER was written.
+    fn enabled(&self, port: &mut SerialState);
+    /// IIR is read. Answers its code.
+    fn identified(&self, port: &mut SerialState) -> u8;
+    /// Whether the line is high, if that can be told.
+    fn line(&self, port: &SerialState) -> Option<bool>;
+    /// Whether a run comes to IIR beside the rest of the state.
+    fn reaches_iir(&self, port: &SerialState) -> bool;
+}
+
+/// Whether a run from a fresh port of such ways comes to a state.
+pub fn reaches(way: &impl Way, port: &SerialState) -> bool {
+    let lsr = LSR_FRESH + u8::from(port.waits()) * LSR_DATA_READY;
+    port.registers[LSR] == lsr
+        && port.registers[MSR] == MSR_FRESH
+        && port.registers[IER] < 0x10
+        && port.buffer.len() <= SerialState::SIZE
+        && way.reaches_iir(port)
 }
 
 /// The loop's wires: a bit of MCR, and the bit of MSR that follows it.
 const WIRES: [(u8, u8); 4] = [(0x02, 0x10), (0x01, 0x20), (0x04, 0x40), (0x08, 0x80)];
 
-pub struct Serial {
-    pub(crate) registers: [u8; 9],
-    pub(crate) buffer: Vec<u8>,
-    quiet_enable: bool,
+pub struct Serial<W> {
+    way: W,
+    port: SerialState,
 }
 
-impl Serial {
-    pub(crate) fn fresh(quiet_enable: bool) -> Self {
-        Serial {
-            registers: [0x0c, 0x00, 0x00, 0x01, 0x03, 0x60, 0x08, 0xb0, 0x00],
-            buffer: Vec::new(),
-            quiet_enable,
-        }
+impl<W: Way> Serial<W> {
+    pub fn fresh(way: W) -> Self {
+        let registers = [
+            0x0c, 0x00, 0x00, 0x01, 0x03, LSR_FRESH, 0x08, MSR_FRESH, 0x00,
+        ];
+        let buffer = Vec::new();
+        let port = SerialState { registers, buffer };
+        Serial { way, port }
     }
 
-    pub(crate) fn divisor_is_open(&self) -> bool {
-        self.registers[LCR] & LCR_DLAB != 0
-    }
-
-    pub(crate) fn loops(&self) -> bool {
-        self.registers[MCR] & MCR_LOOPBACK != 0
-    }
-
-    /// Marks and raises an interrupt that is enabled and not marked yet.
-    fn announce(&mut self, kind: Kind) -> Raised {
-        let iir = self.registers[IIR];
-        if !kind.is_enabled(self.registers[IER]) || kind.is_marked(iir) {
-            return 0;
-        }
-        self.registers[IIR] = iir & !IIR_NONE | kind.marked;
-        1
-    }
-
-    fn unmark(&mut self, kind: Kind) {
-        let left = self.registers[IIR] & !kind.marked;
-        self.registers[IIR] = if left == 0 { IIR_NONE } else { left };
+    /// Does something, and answers how many interrupts that raised.
+    fn raised<T>(&mut self, does: impl FnOnce(&mut Self) -> T) -> (T, Raised) {
+        let standing = |port: &Self| KINDS.map(|kind| port.way.stands(kind, &port.port));
+        let before = standing(self);
+        let done = does(self);
+        let after = standing(self);
+        let raised = (0..KINDS.len()).filter(|&kind| after[kind] && !before[kind]);
+        (done, raised.count())
     }
 
     /// Lets bytes arrive for which there is room.
-    fn receive(&mut self, bytes: &[u8]) -> Raised {
-        self.buffer.extend(bytes);
-        self.registers[LSR] |= LSR_DATA_READY;
-        self.announce(RECEIVED_DATA)
+    fn receive(&mut self, bytes: &[u8]) {
+        let waited = self.port.waits();
+        self.port.buffer.extend(bytes);
+        self.port.registers[LSR] |= LSR_DATA_READY;
+        self.way.received(&mut self.port, waited);
     }
 
-    fn transmit(&mut self, value: u8) -> (Option<u8>, Raised) {
-        if !self.loops() {
-            return (Some(value), self.announce(TRANSMITTER_EMPTY));
+    fn transmit(&mut self, value: u8) -> Option<u8> {
+        self.way.transmits(&mut self.port);
+        if !self.port.loops() {
+            return Some(value);
         }
-        if self.room() == 0 {
-            return (None, 0);
+        if self.port.room() > 0 {
+            self.receive(&[value]);
         }
-        (None, self.receive(&[value]))
+        None
     }
 
-    fn enable(&mut self, value: u8) -> Raised {
-        self.registers[IER] = value & 0x0f;
-        if self.quiet_enable {
-            return 0;
-        }
-        let received = match self.buffer[..] {
-            [] => 0,
-            _ => self.announce(RECEIVED_DATA),
-        };
-        received + self.announce(TRANSMITTER_EMPTY)
+    fn enable(&mut self, value: u8) -> Option<u8> {
+        self.port.registers[IER] = value & 0x0f;
+        self.way.enabled(&mut self.port);
+        None
     }
 
     fn fetch(&mut self) -> u8 {
-        self.unmark(RECEIVED_DATA);
-        let first = match self.buffer[..] {
-            [] => 0,
-            _ => self.buffer.remove(0),
+        let first = match self.port.waits() {
+            true => self.port.buffer.remove(0),
+            false => 0,
         };
-        if self.buffer.is_empty() {
-            self.registers[LSR] &= !LSR_DATA_READY;
+        if !self.port.waits() {
+            self.port.registers[LSR] &= !LSR_DATA_READY;
         }
+        self.way.fetched(&mut self.port);
         first
     }
 
-    fn identify(&mut self) -> u8 {
-        let shown = self.registers[IIR] | IIR_SHOWN;
-        self.registers[IIR] = IIR_NONE;
-        shown
-    }
-
     fn modem_status(&self) -> u8 {
-        if !self.loops() {
-            return self.registers[MSR];
+        let registers = &self.port.registers;
+        if !self.port.loops() {
+            return registers[MSR];
         }
         let wires = WIRES
             .iter()
-            .filter(|(control, _)| self.registers[MCR] & control != 0);
-        wires.fold(self.registers[MSR] & 0x0f, |shown, (_, status)| {
-            shown | status
-        })
+            .filter(|(control, _)| registers[MCR] & control != 0);
+        wires.fold(registers[MSR] & 0x0f, |shown, (_, status)| shown | status)
     }
 }
 
-impl devices::Serial for Serial {
+impl<W: Way> devices::Serial for Serial<W> {
     /// What is written at any other offset has no effect.
     fn write(&mut self, offset: u8, value: u8) -> (Option<u8>, Raised) {
-        match (offset, self.divisor_is_open()) {
-            (0, false) => return self.transmit(value),
-            (0, true) => self.registers[DLL] = value,
-            (1, false) => return (None, self.enable(value)),
-            (1, true) => self.registers[DLM] = value,
-            (3, _) => self.registers[LCR] = value,
-            (4, _) => self.registers[MCR] = value,
-            (7, _) => self.registers[SCR] = value,
-            _ => {}
-        }
+        let place = match (offset, self.port.divisor_is_open()) {
+            (0, false) => return self.raised(|port| port.transmit(value)),
+            (0, true) => DLL,
+            (1, false) => return self.raised(|port| port.enable(value)),
+            (1, true) => DLM,
+            (3, _) => LCR,
+            (4, _) => MCR,
+            (7, _) => SCR,
+            _ => return (None, 0),
+        };
+        self.port.registers[place] = value;
         (None, 0)
     }
 
     fn read(&mut self, offset: u8) -> (u8, Raised) {
-        let value = match (offset, self.divisor_is_open()) {
+        let value = match (offset, self.port.divisor_is_open()) {
             (0, false) => self.fetch(),
-            (0, true) => self.registers[DLL],
-            (1, false) => self.registers[IER],
-            (1, true) => self.registers[DLM],
-            (2, _) => self.identify(),
-            (3, _) => self.registers[LCR],
-            (4, _) => self.registers[MCR],
-            (5, _) => self.registers[LSR],
+            (0, true) => self.port.registers[DLL],
+            (1, false) => self.port.registers[IER],
+            (1, true) => self.port.registers[DLM],
+            (2, _) => self.way.identified(&mut self.port) | IIR_SHOWN,
+            (3, _) => self.port.registers[LCR],
+            (4, _) => self.port.registers[MCR],
+            (5, _) => self.port.registers[LSR],
             (6, _) => self.modem_status(),
-            (7, _) => self.registers[SCR],
+            (7, _) => self.port.registers[SCR],
             _ => 0,
         };
         (value, 0)
     }
 
     fn input(&mut self, bytes: &[u8]) -> (Option<usize>, Raised) {
-        if self.loops() || bytes.is_empty() {
+        if self.port.loops() || bytes.is_empty() {
             return (Some(0), 0);
         }
-        if self.room() == 0 {
+        let taken = bytes.len().min(self.port.room());
+        if taken == 0 {
             return (None, 0);
         }
-        let taken = bytes.len().min(self.room());
-        (Some(taken), self.receive(&bytes[..taken]))
+        let ((), raised) = self.raised(|port| port.receive(&bytes[..taken]));
+        (Some(taken), raised)
     }
 
     fn room(&self) -> usize {
-        SIZE.saturating_sub(self.buffer.len())
+        self.port.room()
     }
 
     fn state(&self) -> SerialState {
-        let (registers, buffer) = (self.registers, self.buffer.clone());
-        SerialState { registers, buffer }
+        self.port.clone()
     }
 
     fn restore(&mut self, state: &SerialState) -> Option<Raised> {
-        if state.buffer.len() > SIZE {
+        if state.buffer.len() > SerialState::SIZE {
             return None;
         }
-        self.registers = state.registers;
-        self.buffer = state.buffer.clone();
-        let kinds = [TRANSMITTER_EMPTY, RECEIVED_DATA];
-        Some(kinds.iter().filter(|kind| kind.is_raised(state)).count())
+        self.port = state.clone();
+        let stands = |kind: &&Kind| kind.is_enabled(state) && self.way.stands(**kind, state);
+        Some(KINDS.iter().filter(stands).count())
+    }
+
+    fn line(&self) -> Option<bool> {
+        self.way.line(&self.port)
+    }
+
+    fn reaches(&self, state: &SerialState) -> bool {
+        reaches(&self.way, state)
     }
 }

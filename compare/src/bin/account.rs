@@ -8,12 +8,12 @@ use judge::driver::serve;
 
 fn main() -> ExitCode {
     program("account", |arguments| {
-        let quiet_enable = match arguments {
-            [] => false,
-            ["--quiet-enable"] => true,
-            _ => return Err("usage: account [--quiet-enable] < LIST > ANSWERS".into()),
-        };
-        serve(Account { quiet_enable })?;
+        serve(match arguments {
+            [] => Account::Ours,
+            ["--original"] => Account::Original,
+            ["--quiet-enable"] => Account::QuietEnable,
+            _ => return Err("usage: account [--original | --quiet-enable] < LIST".into()),
+        })?;
         Ok(ExitCode::SUCCESS)
     })
 }

@@ -8,21 +8,27 @@ use judge::command_line::{number, program, read_file, Trouble};
 use judge::difference::Pair;
 use judge::format::asking_lines;
 
-const USAGE: &str = "usage: compare [--limit SECONDS] LEFT RIGHT LIST
+const USAGE: &str = "usage: compare [--limit SECONDS] [--rows] LEFT RIGHT LIST
   LEFT, RIGHT  `original`, `account`, `recorded:FILE`, or the program to run; its arguments may
-               follow it in the same word, as in 'account --quiet-enable'
+               follow it in the same word, as in 'account --original'
   LIST         a file
-  --limit      how long an answerer may take for a list (120)";
+  --limit      how long an answerer may take for a list (120)
+  --rows       LEFT is vm-superio, and both differ where the rows say so, and nowhere else";
 
 fn run(arguments: &[&str]) -> Result<ExitCode, Trouble> {
-    let (seconds, left, right, list) = match arguments {
-        ["--limit", seconds, left, right, list] => (number(seconds)?, left, right, list),
-        [left, right, list] => (120, left, right, list),
+    let (seconds, arguments) = match arguments {
+        ["--limit", seconds, others @ ..] => (number(seconds)?, others),
+        _ => (120, arguments),
+    };
+    let (rows, [left, right, list]) = match arguments {
+        ["--rows", left, right, list] => (true, [left, right, list]),
+        [left, right, list] => (false, [left, right, list]),
         _ => return Err(USAGE.into()),
     };
     let pair = Pair {
         left: Answerer::named(left)?,
         right: Answerer::named(right)?,
+        rows,
         limit: Duration::from_secs(seconds),
     };
     let questions = read_file(list)?;

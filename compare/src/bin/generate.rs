@@ -7,14 +7,15 @@ use judge::command_line::{number, program, Trouble};
 use judge::format::Device;
 use judge::generate::{exhaustive, format_cases, random, Options};
 
-const USAGE: &str = "usage: generate KIND [--devices NAME,..] [--quiet-enable] [--no-saves] > LIST
+const USAGE: &str = "usage: generate KIND [OPTION..] > LIST
   KIND: exhaustive      every run of up to three operations, every offset
         random N SEED   N lines that get an answer, the same for the same seed
         format          every kind of line, well-formed and not
-  --devices             of serial, clock and i8042; all three if it is not given
+  --devices NAME,..     of serial, clock and i8042; all three if it is not given
   --quiet-enable        without the writes of the interrupt enable register that announce
                         something in vm-superio 0.8.2
-  --no-saves            without saved states";
+  --no-saves            without saved states
+  --no-lines            without the question for the interrupt line";
 
 fn device(name: &str) -> Result<Device, Trouble> {
     let device = Device::ALL.into_iter().find(|device| device.word() == name);
@@ -29,6 +30,7 @@ fn run(arguments: &[&str]) -> Result<ExitCode, Trouble> {
         match argument {
             "--quiet-enable" => options.quiet_enable = true,
             "--no-saves" => options.saves = false,
+            "--no-lines" => options.lines = false,
             "--devices" => {
                 let names = arguments.next().ok_or(USAGE)?.split(',');
                 options.devices = names.map(device).collect::<Result<_, _>>()?;

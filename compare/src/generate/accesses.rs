@@ -25,6 +25,22 @@ impl Writer {
         }
     }
 
+    /// Something that interrupts depend on, and the line after it.
+    pub(super) fn interrupts(&mut self) {
+        let line = match self.numbers.below(8) {
+            0..=1 => "r 02",
+            2 => "r 00",
+            3 => "b 61",
+            4 => "w 00 55",
+            5 => self.numbers.pick(&["w 03 03", "w 04 08", "w 04 18"]),
+            _ => self
+                .numbers
+                .pick(&["w 01 00", "w 01 01", "w 01 02", "w 01 03"]),
+        };
+        self.add(line);
+        self.add("line");
+    }
+
     fn serial_offset(&mut self) -> u8 {
         match self.numbers.below(12) {
             0 => self.numbers.byte(),

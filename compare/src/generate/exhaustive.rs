@@ -48,10 +48,10 @@ fn every_i8042_access(list: &mut List) {
 /// waiting, and with the state at its end.
 fn every_serial_access(list: &mut List) {
     for offset in 0..=0xff {
-        list.add(format!("serial\nb 6162\nr {offset:02x}\nstate"));
+        list.add(format!("serial\nb 6162\nr {offset:02x}\nline\nstate"));
         for value in 0..=0xff {
             list.add(format!("serial\nb 6162\nw {offset:02x} {value:02x}"));
-            list.add("r 06\nstate");
+            list.add("r 06\nline\nstate");
         }
     }
 }
@@ -87,7 +87,8 @@ fn restored_registers(list: &mut List) {
             let mut registers = ["0c", "00", "00", "01", "03", lsr, "08", "b0", "00"];
             registers[place] = &value;
             let registers = registers.join(" ");
-            list.add(format!("serial\nrestore {registers} {waiting}\nstate"));
+            list.add(format!("serial\nrestore {registers} {waiting}"));
+            list.add("line\nstate");
         }
     }
 }
@@ -106,7 +107,7 @@ fn restored_marks(list: &mut List) {
                 let registers = format!("11 22 {ier:02x} {iir:02x} 03 {lsr:02x} {mcr} b0 33");
                 for access in ACCESSES.lines() {
                     list.add(format!("serial\nrestore {registers} {waiting}"));
-                    list.add(format!("{access}\nstate"));
+                    list.add(format!("line\n{access}\nline\nstate"));
                 }
             }
         }
@@ -187,13 +188,13 @@ fn every_run(list: &mut List, device: &str, alphabet: Vec<String>) {
             left.extend(alphabet.iter().rev().map(|line| format!("{run}\n{line}")));
         }
         if !list.options.quiet_enable || !has_announcement(&run) {
-            list.add(run + "\nstate");
+            list.add(run + "\nline\nstate");
         }
     }
 }
 
 fn has_announcement(run: &str) -> bool {
-    let mut driver = Driver::new(Account::default());
+    let mut driver = Driver::new(Account::Original);
     format::asking_lines(run.as_bytes()).any(|line| {
         let found = announces(&driver, line);
         driver.answer(line);
@@ -212,6 +213,7 @@ mod tests {
             devices,
             quiet_enable,
             saves,
+            lines: true,
         });
         let starts = format::asking_lines(&text).filter(|line| format::is_start(line));
         starts.count()

@@ -10,6 +10,7 @@ r 00
 w 04 fe
 b
 b 616263
+line
 room
 r 0000 aabbccdd
 w 0008 05000000
@@ -43,8 +44,12 @@ pub fn list(options: &Options) -> Vec<u8> {
 }
 
 fn cases(list: &mut List) {
-    for line in malformed::LINES.iter().chain(malformed::SAVES) {
-        list.add(line);
+    for lines in [
+        malformed::LINES,
+        malformed::SAVES,
+        malformed::ABOUT_THE_LINE,
+    ] {
+        lines.iter().for_each(|line| list.add(line));
     }
     list.add("\n# a line that gets no answer\nstate");
     list.add(WELL_FORMED);

@@ -37,8 +37,14 @@ pub const LINES: &[&[u8]] = &[
     b"now 36893488147419103232", b"now 184467440737095516160", b"now 100000000000000000000000000000000000",
 ];
 
-/// Such lines about saved states. They have a list of their own: from the lines above random lists without
-/// saved states draw, and a seed is to make the same one always.
+/// Such lines about the line, and about saved states. They have lists of their own: from the lines above
+/// random lists draw that have neither, and a seed is to make the same one always.
+#[rustfmt::skip]
+pub const ABOUT_THE_LINE: &[&[u8]] = &[
+    b"line ", b" line", b"Line", b"LINE", b"lin", b"lines", b"line 0", b"line 1", b"line\r", b"line\t", b"line\0", b"line#",
+    b"line line", b"line ?", b"line  ",
+];
+
 #[rustfmt::skip]
 pub const SAVES: &[&[u8]] = &[
     // Words.

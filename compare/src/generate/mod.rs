@@ -9,7 +9,6 @@ pub mod random;
 pub mod states;
 
 use crate::account::Account;
-use crate::devices::LCR;
 use crate::driver::Driver;
 use crate::format::{self, Device, Operation};
 
@@ -21,6 +20,8 @@ pub struct Options {
     pub quiet_enable: bool,
     /// Save and restore states. A list without is the one that the same seed made before there were any.
     pub saves: bool,
+    /// Ask for the line, and more about interrupts. As for states, a list without is an older one.
+    pub lines: bool,
 }
 
 impl Default for Options {
@@ -29,6 +30,7 @@ impl Default for Options {
             devices: Device::ALL.to_vec(),
             quiet_enable: false,
             saves: true,
+            lines: true,
         }
     }
 }
@@ -44,10 +46,9 @@ pub fn announces(driver: &Driver<Account>, line: &[u8]) -> bool {
     let Some(Operation::WriteByte(1, value)) = format::parse(line) else {
         return false;
     };
-    driver.port().is_some_and(|port| {
-        let divisor_is_open = port.registers[LCR] & 0x80 != 0;
-        !divisor_is_open && (value & 0x02 != 0 || !port.buffer.is_empty())
-    })
+    driver
+        .port()
+        .is_some_and(|port| !port.divisor_is_open() && (value & 0x02 != 0 || port.waits()))
 }
 
 /// A list that is being written.
@@ -64,7 +65,7 @@ impl List {
     pub fn new(options: &Options) -> Self {
         List {
             options: options.clone(),
-            driver: Driver::new(Account::default()),
+            driver: Driver::new(Account::Original),
             asking: 0,
             text: Vec::new(),
         }
@@ -88,6 +89,7 @@ impl List {
     fn is_left_out(&self, line: &[u8]) -> bool {
         match format::parse(line) {
             Some(Operation::Start(device)) => !self.has(device),
+            Some(Operation::Line) => !self.options.lines,
             Some(operation) if operation == Operation::Save || operation.brings_back() => {
                 !self.options.saves
             }
@@ -110,8 +112,11 @@ mod tests {
             devices: vec![Device::Serial],
             quiet_enable: true,
             saves: false,
+            lines: false,
         });
-        list.add("serial\nclock\nw 01 02\nsave\nrestore\nrestore 00 00 00 00 00 00 00 00 00 -");
+        list.add(
+            "serial\nclock\nw 01 02\nline\nsave\nrestore\nrestore 00 00 00 00 00 00 00 00 00 -",
+        );
         list.add("restore 00000000 0000000000000000 00000000 00000000 00000000");
         list.add("# no answer\nw 01 01");
         assert_eq!(list.asking, 2);

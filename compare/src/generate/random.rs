@@ -76,6 +76,7 @@ impl Writer {
                 self.save_or_restore(device);
             }
             match device {
+                Device::Serial if options.lines && self.numbers.once_in(3) => self.interrupts(),
                 Device::Serial => self.serial(),
                 Device::Clock => self.clock(),
                 Device::I8042 => self.i8042(),

@@ -9,7 +9,7 @@ const SIZES: [usize; 10] = [0, 0, 1, 1, 2, 63, 64, 64, 65, 200];
 
 /// A serial port's state, mostly near the present one or such as a run leaves.
 pub fn port(numbers: &mut Numbers, present: Option<SerialState>) -> SerialState {
-    let mut near = present.unwrap_or_else(|| Account::default().serial().state());
+    let mut near = present.unwrap_or_else(|| Account::Original.serial().state());
     match numbers.below(6) {
         0 => any_port(numbers),
         1 => {

@@ -8,7 +8,8 @@ use lib.Dec.{eqb, leb}
 use lib.IntN.{pos, _-ℤ_}
 use lib.ListN.{getD}
 use borrow.Author.Tests.{eqb-true, leb-true, leb-false}
-use Rattle.clock.specs.Registers.{Clock, Register, DR, MR, LR, CR, IMSC, RIS, MIS, ICR, ID, reserved, registerAt, says, refused, becomes, ignored, ids, shown, without, withMr, withLr, withImsc, withRis, rule, readOf, writeOf}
+use Rattle.clock.specs.Registers.{Clock, Register, DR, MR, LR, CR, IMSC, RIS, MIS, ICR, ID, reserved, registerAt, says, refused}
+use Rattle.clock.specs.Registers.{becomes, ignored, ids, shown, without, withMr, withLr, withImsc, withRis, rule, readOf, writeOf}
 use Rattle.clock.specs.Layout.{clockAfter}
 
 -- ---- An offset names one register

@@ -14,15 +14,18 @@ use Rattle.clock.specs.Registers.{Clock, fresh, says, becomes, ids, sum,
 use Rattle.clock.specs.Layout.{refusal}
 use Rattle.clock.specs.Runs.{Access, read, write, resultOf, next, after, answers, All, KeepsTime, CannotWrite, seen}
 use Rattle.clock.proofs.Time.{less, below, minus, shows-sum, shows-now-above, shows-now-below}
-use Rattle.clock.proofs.Registers.{write-cases, reads-dr, reads-imsc, reads-ris, reads-mis, reads-id, writes-lr, writes-cr, writes-imsc, writes-nothing}
+use Rattle.clock.proofs.Registers.{write-cases, reads-dr, reads-imsc, reads-ris, reads-mis, reads-id, writes-lr, writes-cr}
+use Rattle.clock.proofs.Registers.{writes-imsc, writes-nothing}
 
 -- ---- One access, by the definition's rules
 
-answered : (c : Clock) (time offset v : ℕ) (bytes : List ℕ) → readOf c time offset ≡ says v → resultOf c (read time offset bytes) ≡ answers v
+answered : (c : Clock) (time offset v : ℕ) (bytes : List ℕ) → readOf c time offset ≡ says v
+    → resultOf c (read time offset bytes) ≡ answers v
 unfolding resultOf
 answered c time offset v bytes e = rw e
 
-becomes-next : (c c′ : Clock) (time offset : ℕ) (bytes : List ℕ) → writeOf c time offset (valueOf bytes) ≡ becomes c′ → next c (write time offset bytes) ≡ c′
+becomes-next : (c c′ : Clock) (time offset : ℕ) (bytes : List ℕ) → writeOf c time offset (valueOf bytes) ≡ becomes c′
+    → next c (write time offset bytes) ≡ c′
 unfolding next
 becomes-next c c′ time offset bytes e = rw e
 
@@ -76,7 +79,8 @@ module _ (v t u : ℕ) where
       go : Dec (v + u < t) → Dec (v + u - t < 2 ^ 32) → shown u (pos v -ℤ pos t) ≡ seen v t u
       go (yes k) w = shows-now-below u _ _ (sum-negative v t u k) ∙ sym (seen-too-low k)
       go (no k) (yes w) = shows-sum u _ _ (sum-from v t u (omega arith)) w ∙ sym (seen-on (omega arith) w)
-      go (no k) (no w) = shows-now-above u _ _ (sum-from v t u (omega arith)) (omega arith) ∙ sym (seen-too-high (omega arith) (omega arith))
+      go (no k) (no w) = shows-now-above u _ _ (sum-from v t u (omega arith)) (omega arith)
+          ∙ sym (seen-too-high (omega arith) (omega arith))
 
 -- A guest that sets the clock at one time and reads it at another, with any accesses between that do not set it.
 pub set-then-read : (c : Clock) (t u : ℕ) (bytes lent : List ℕ) (between : List Access) → All KeepsTime between
@@ -139,7 +143,8 @@ written-mask c t bytes run = mask-stays _ run (rw (becomes-next c _ t 0x010 byte
 pub masked-status : (c : Clock) (t : ℕ) → readOf c t 0x018 ≡ says (bitAnd (c .ris) (c .imsc))
 masked-status c t = reads-mis c t 0x018 refl
 
-pub masked-of-reads : (c : Clock) (t u w raw mask : ℕ) → readOf c t 0x014 ≡ says raw → readOf c u 0x010 ≡ says mask → readOf c w 0x018 ≡ says (bitAnd raw mask)
+pub masked-of-reads : (c : Clock) (t u w raw mask : ℕ) → readOf c t 0x014 ≡ says raw → readOf c u 0x010 ≡ says mask
+    → readOf c w 0x018 ≡ says (bitAnd raw mask)
 masked-of-reads c t u w raw mask r m =
     let a : c .ris ≡ raw = cc (reads-ris c t 0x014 refl) in
     let b : c .imsc ≡ mask = cc (reads-imsc c u 0x010 refl) in

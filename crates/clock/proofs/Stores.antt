@@ -49,7 +49,8 @@ module _ (words : List ℕ) (n : length words ≡ 8) where
     stores-ris =
         eight-are (λ l. Leaves (withRis (clockOf l) v) l (set l 3 v)) (λ _ _ _ _ _ _ _ _. record { clock = refl; spare = refl; answer = refl }) words n
 
-    pub stores-lr : (bits : ℕ) → Leaves (withLr (clockOf words) v (signed bits)) words (set (set (set words 0 v) 4 (bits % 2 ^ 32)) 5 (bits / 2 ^ 32))
+    pub stores-lr : (bits : ℕ)
+        → Leaves (withLr (clockOf words) v (signed bits)) words (set (set (set words 0 v) 4 (bits % 2 ^ 32)) 5 (bits / 2 ^ 32))
     unfolding clockOf spareOf
     stores-lr bits =
         eight-are (λ l. Leaves (withLr (clockOf l) v (signed bits)) l (set (set (set l 0 v) 4 (bits % 2 ^ 32)) 5 (bits / 2 ^ 32)))

@@ -94,7 +94,8 @@ module _ (now low high : ℕ) (n : now < 2 ^ 32) (l : low < 2 ^ 32) (h : high < 
 -- ---- A difference, and its two halves
 
 -- `bits` is the difference as the code has it: added to `now` it wraps back to `v`.
-pub difference-signed : (v now bits : ℕ) → v < 2 ^ 32 → now < 2 ^ 32 → bits < 2 ^ 64 → (bits + now) % 2 ^ 64 ≡ v → signed bits ≡ pos v -ℤ pos now
+pub difference-signed : (v now bits : ℕ) → v < 2 ^ 32 → now < 2 ^ 32 → bits < 2 ^ 64 → (bits + now) % 2 ^ 64 ≡ v
+    → signed bits ≡ pos v -ℤ pos now
 difference-signed v now bits m n b w = go (decLt v now)
   where
     go : Dec (v < now) → signed bits ≡ pos v -ℤ pos now

@@ -14,7 +14,8 @@ use Rattle.clock.proofs.Time.{signed-low, signed-high}
 
 -- ---- Calls answer as the definition does
 
-same-result : {b c : List ℕ} {v w : ℕ} → b ≡ c → v ≡ w → _≡_ {A = Result} (record { bytes = b; answer = v }) (record { bytes = c; answer = w })
+same-result : {b c : List ℕ} {v w : ℕ} → b ≡ c → v ≡ w
+    → _≡_ {A = Result} (record { bytes = b; answer = v }) (record { bytes = c; answer = w })
 same-result e f = rw (e, f)
 
 -- One call that meets its contract.
@@ -34,7 +35,8 @@ as-defined (then {words = words} {words′ = middle} {a = a} {rest = rest} {r = 
     (cc, cc)
 
 -- No call changes a spare word.
-pub spare-stays : {words words′ : List ℕ} {run : List Access} {rs : List Result} → Called words run words′ rs → spareOf words′ ≡ spareOf words
+pub spare-stays : {words words′ : List ℕ} {run : List Access} {rs : List Result} → Called words run words′ rs
+    → spareOf words′ ≡ spareOf words
 spare-stays none = refl
 spare-stays (then {words = words} {words′ = middle} {a = a} {r = r} p more) = spare-stays more ∙ once a r p
   where

@@ -10,7 +10,8 @@ use borrow.Author.Tests.{le-leb, lt-leb}
 use Rattle.common.specs.Bytes.{valueOf}
 use Rattle.common.specs.Forms.{Reason, tooShort, trailing, version, offset, spare, refusalWord}
 use Rattle.clock.specs.Layout.{joined, signed, clockOf, spareIsZero}
-use Rattle.clock_form.specs.Form.{current, formLength, within33, offsetFits, hasForm, whyNone, formOf, Read, refused, versionIn, wordAt, wordsIn, readForm}
+use Rattle.clock_form.specs.Form.{current, formLength, within33, offsetFits, hasForm, whyNone, formOf, Read, refused, versionIn}
+use Rattle.clock_form.specs.Form.{wordAt, wordsIn, readForm}
 use Rattle.clock_form.specs.Calls.{Encodes, Decodes}
 use Rattle.clock_form.specs.Outcomes.{Known, noVersion, otherVersion, cutOff, leftOver, tooFar, whole}
 use Rattle.clock_form.proofs.Numbers.{form-length}

@@ -52,14 +52,16 @@ in-one : (form words : List ℕ) → length words ≡ 8 → one-by-one form word
 unfolding formOf bytesOfWords bytesOf
 in-one form = eight-are (λ w. one-by-one form w ≡ sets form 0 (formOf w)) (λ _ _ _ _ _ _ _ _. refl)
 
-pub writes : (words form : List ℕ) → length words ≡ 8 → {form₀ form₁ form₂ form₃ form₄ form₅ form₆ : List ℕ} → form₀ ≡ sets form 0 (bytesOf 2 current)
+pub writes : (words form : List ℕ) → length words ≡ 8 → {form₀ form₁ form₂ form₃ form₄ form₅ form₆ : List ℕ}
+    → form₀ ≡ sets form 0 (bytesOf 2 current)
     → form₁ ≡ sets form₀ 2 (bytesOf 4 (getD words 0 0)) → form₂ ≡ sets form₁ 6 (bytesOf 4 (getD words 1 0))
     → form₃ ≡ sets form₂ 10 (bytesOf 4 (getD words 2 0)) → form₄ ≡ sets form₃ 14 (bytesOf 4 (getD words 3 0))
     → form₅ ≡ sets form₄ 18 (bytesOf 4 (getD words 4 0)) → form₆ ≡ sets form₅ 22 (bytesOf 4 (getD words 5 0))
     → form₆ ≡ sets form 0 (formOf words)
 writes words form eight e₀ e₁ e₂ e₃ e₄ e₅ e₆ = rw (e₆, e₅, e₄, e₃, e₂, e₁, e₀) (in-one form words eight)
 
-pub reads-words : (form saved : List ℕ) → length saved ≡ 8 → {w₀ w₁ w₂ w₃ w₄ w₅ : ℕ} → w₀ ≡ wordAt form 2 → w₁ ≡ wordAt form 6 → w₂ ≡ wordAt form 10
+pub reads-words : (form saved : List ℕ) → length saved ≡ 8 → {w₀ w₁ w₂ w₃ w₄ w₅ : ℕ} → w₀ ≡ wordAt form 2 → w₁ ≡ wordAt form 6
+    → w₂ ≡ wordAt form 10
     → w₃ ≡ wordAt form 14 → w₄ ≡ wordAt form 18 → w₅ ≡ wordAt form 22
     → set (set (set (set (set (set (set (set saved 0 w₀) 1 w₁) 2 w₂) 3 w₃) 4 w₄) 5 w₅) 6 0) 7 0 ≡ wordsIn form
 unfolding wordsIn

@@ -14,7 +14,8 @@ use Rattle.common.proofs.Bytes.{bytes-take, bytes-drop, value-of-bytes, value-s
 use Rattle.clock.specs.Layout.{Words, clockOf, spareOf, spareIsZero}
 use Rattle.clock.proofs.Stores.{eight-are}
 use Rattle.clock.proofs.Spare.{spare-zero}
-use Rattle.clock_form.specs.Form.{current, formLength, offsetFits, hasForm, whyNone, bytesOfWords, formOf, Read, refused, reads, versionIn, wordAt, wordsIn, readForm}
+use Rattle.clock_form.specs.Form.{current, formLength, offsetFits, hasForm, whyNone, bytesOfWords, formOf, Read, refused, reads}
+use Rattle.clock_form.specs.Form.{versionIn, wordAt, wordsIn, readForm}
 use Rattle.clock_form.specs.Calls.{answerOf, wordsAfter, Encodes, Decodes}
 use Rattle.clock_form.specs.Outcomes.{Known, Comes, whole, tooFar, ReadFrom}
 use Rattle.clock_form.proofs.Numbers.{form-length}
@@ -162,7 +163,8 @@ decode-refused {o = refused reason} d n = d .words
 decode-refused {o = reads words} d n = absurd (n (d .answer))
 
 -- Where there is room, the form lies first.
-encoded : {words form form′ : List ℕ} {r : ℕ} → length words ≡ 8 → hasForm words ≡ true → formLength ≤ length form → Encodes words form form′ r
+encoded : {words form form′ : List ℕ} {r : ℕ} → length words ≡ 8 → hasForm words ≡ true → formLength ≤ length form
+    → Encodes words form form′ r
     → (r ≡ formLength) × (take r form′ ≡ formOf words)
 encoded {words} {form} {form′} {r} eight f h e =
     let long : r ≡ formLength = rw f at (e .answer) in

@@ -1,4 +1,5 @@
--- A saved clock as bytes: a version of two bytes, then its words but the spare ones, four bytes each. The lowest byte of a number is its first.
+-- A saved clock as bytes: a version of two bytes, then its words but the spare ones, four bytes each. The lowest byte of a number is its
+-- first.
 use Prim.Native.Nat.{ℕ, _^_}
 use mathlib.Core.Bool.{Bool, cond, _&&_}
 use mathlib.Core.List.{List, [], _∷_, _++_}

@@ -41,7 +41,8 @@ use Rattle.clock_lines.specs.Answers.{
 
 -- ---- Eight words
 
-pub eight : {a a′ b b′ c c′ d d′ e e′ f f′ : ℕ} → a ≡ a′ → b ≡ b′ → c ≡ c′ → d ≡ d′ → e ≡ e′ → f ≡ f′ → (a ∷ b ∷ c ∷ d ∷ e ∷ f ∷ 0 ∷ 0 ∷ []) ≡ (a′ ∷ b′ ∷ c′ ∷ d′ ∷ e′ ∷ f′ ∷ 0 ∷ 0 ∷ [])
+pub eight : {a a′ b b′ c c′ d d′ e e′ f f′ : ℕ} → a ≡ a′ → b ≡ b′ → c ≡ c′ → d ≡ d′ → e ≡ e′ → f ≡ f′
+    → (a ∷ b ∷ c ∷ d ∷ e ∷ f ∷ 0 ∷ 0 ∷ []) ≡ (a′ ∷ b′ ∷ c′ ∷ d′ ∷ e′ ∷ f′ ∷ 0 ∷ 0 ∷ [])
 eight p q r s t u = rw (p, q, r, s, t, u) refl
 
 -- ---- One access
@@ -55,18 +56,22 @@ abbrev holding : Clocks → List ℕ → Clocks
 holding clocks clock = record { clock = clock; time = clocks .time; kept = clocks .kept; keeps = clocks .keeps }
 
 module _ (clocks : Clocks) {out out′ : List ℕ} {at r : ℕ} where
-  pub reads : (offset : ℕ) {before after : List ℕ} {answer : ℕ} → Reads (readOf (clockOf (clocks .clock)) (clocks .time) offset) before after answer
-      → Puts out at (readSaid after (valid answer)) out′ r → r ≤ at + 4096 → Answers (read offset before) clocks out at (record { clocks = clocks; put = r }) out′
+  pub reads : (offset : ℕ) {before after : List ℕ} {answer : ℕ}
+      → Reads (readOf (clockOf (clocks .clock)) (clocks .time) offset) before after answer
+      → Puts out at (readSaid after (valid answer)) out′ r → r ≤ at + 4096
+      → Answers (read offset before) clocks out at (record { clocks = clocks; put = r }) out′
   reads offset c p h =
       record { reached = false; tells = tt; said = rw (← c .bytes, ← c .answer) p; clock = refl; spare = refl; time = refl; kept = refl; keeps = refl; short = h }
 
   pub writes : (offset : ℕ) (bytes : List ℕ) {clock′ : List ℕ} {answer : ℕ}
       → Writes (writeOf (clockOf (clocks .clock)) (clocks .time) offset (valueOf bytes)) (clocks .clock) clock′ answer
-      → Puts out at (writeSaid (valid answer)) out′ r → r ≤ at + 4096 → Answers (write offset bytes) clocks out at (record { clocks = holding clocks clock′; put = r }) out′
+      → Puts out at (writeSaid (valid answer)) out′ r → r ≤ at + 4096
+      → Answers (write offset bytes) clocks out at (record { clocks = holding clocks clock′; put = r }) out′
   writes offset bytes c p h =
       record { reached = false; tells = tt; said = rw (← c .answer) p; clock = c .clock; spare = c .spare; time = refl; kept = refl; keeps = refl; short = h }
 
-  pub restores : {saved clock′ : List ℕ} {answer : ℕ} → Restores saved clock′ answer → Puts out at (restoreSays (eqb answer 0x4_0000)) out′ r → r ≤ at + 4096
+  pub restores : {saved clock′ : List ℕ} {answer : ℕ} → Restores saved clock′ answer
+      → Puts out at (restoreSays (eqb answer 0x4_0000)) out′ r → r ≤ at + 4096
       → Answers (restore saved) clocks out at (record { clocks = holding clocks clock′; put = r }) out′
   restores c p h =
       record { reached = c .reachable; tells = c .told; said = rw (reached-told (c .reachable) (c .answer)) at p; clock = ap clockOf (c .words); spare = ap spareOf (c .words); time = refl; kept = refl; keeps = refl; short = h }
@@ -75,23 +80,27 @@ module _ (clocks : Clocks) {out out′ : List ℕ} {at r : ℕ} where
       → Answers save clocks out at (record { clocks = record { clock = clocks .clock; time = clocks .time; kept = kept′; keeps = true }; put = r }) out′
   saves k p h = record { reached = false; tells = tt; said = rw (← k) p; clock = refl; spare = refl; time = refl; kept = k; keeps = refl; short = h }
 
-  pub state-shown : Puts out at (stateSays (text "state") (clocks .clock)) out′ r → r ≤ at + 4096 → Answers showState clocks out at (record { clocks = clocks; put = r }) out′
+  pub state-shown : Puts out at (stateSays (text "state") (clocks .clock)) out′ r → r ≤ at + 4096
+      → Answers showState clocks out at (record { clocks = clocks; put = r }) out′
   state-shown p h = record { reached = false; tells = tt; said = p; clock = refl; spare = refl; time = refl; kept = refl; keeps = refl; short = h }
 
-  pub nothing-asked : Puts out at (text "?\n") out′ r → r ≤ at + 4096 → Answers nothing clocks out at (record { clocks = clocks; put = r }) out′
+  pub nothing-asked : Puts out at (text "?\n") out′ r → r ≤ at + 4096
+      → Answers nothing clocks out at (record { clocks = clocks; put = r }) out′
   nothing-asked p h = record { reached = false; tells = tt; said = p; clock = refl; spare = refl; time = refl; kept = refl; keeps = refl; short = h }
 
   pub time-set : {n : Number} {t : ℕ} → Is t ≡ n → Puts out at (text "now\n") out′ r → r ≤ at + 4096
       → Answers (asksTime n) clocks out at (record { clocks = record { clock = clocks .clock; time = t; kept = clocks .kept; keeps = clocks .keeps }; put = r }) out′
   time-set e p h = rw (← e) (record { reached = false; tells = tt; said = p; clock = refl; spare = refl; time = refl; kept = refl; keeps = refl; short = h })
 
-  pub no-time : {n : Number} → Bad ≡ n → Puts out at (text "?\n") out′ r → r ≤ at + 4096 → Answers (asksTime n) clocks out at (record { clocks = clocks; put = r }) out′
+  pub no-time : {n : Number} → Bad ≡ n → Puts out at (text "?\n") out′ r → r ≤ at + 4096
+      → Answers (asksTime n) clocks out at (record { clocks = clocks; put = r }) out′
   no-time e p h = rw (← e) (nothing-asked p h)
 
 -- ---- The clock that was saved last
 
 module _ (saved : List ℕ) {clocks : Clocks} {out out′ : List ℕ} {at : ℕ} {r : Said} {keeps : Bool} where
-  pub some-kept : keeps ≡ true → Answers (restore saved) clocks out at r out′ → Answers (cond keeps (restore saved) nothing) clocks out at r out′
+  pub some-kept : keeps ≡ true → Answers (restore saved) clocks out at r out′
+      → Answers (cond keeps (restore saved) nothing) clocks out at r out′
   some-kept k a = rw k a
 
   pub none-kept : keeps ≡ false → Answers nothing clocks out at r out′ → Answers (cond keeps (restore saved) nothing) clocks out at r out′
@@ -106,22 +115,26 @@ module _ (line : List ℕ) {clocks : Clocks} {out out′ : List ℕ} {at : ℕ} 
   by-read f o b a = rw (f, ← o, ← b) a
 
   module _ (no-read : fitsOf (text "r OOOO BBBBBBBB") line ≡ false) where
-    pub by-write : {offset : ℕ} {bytes : List ℕ} → fitsOf (text "w OOOO BBBBBBBB") line ≡ true → offset ≡ offsetIn line → bytes ≡ bytesIn line
+    pub by-write : {offset : ℕ} {bytes : List ℕ} → fitsOf (text "w OOOO BBBBBBBB") line ≡ true → offset ≡ offsetIn line
+        → bytes ≡ bytesIn line
         → Answers (write offset bytes) clocks out at r out′ → Answers (asks clocks line) clocks out at r out′
     unfolding asks
     by-write f o b a = rw (no-read, f, ← o, ← b) a
 
     module _ (no-write : fitsOf (text "w OOOO BBBBBBBB") line ≡ false) where
-      pub by-time : beginsLike (text "now ") line ≡ true → Answers (asksTime (numberOf (drop 4 line))) clocks out at r out′ → Answers (asks clocks line) clocks out at r out′
+      pub by-time : beginsLike (text "now ") line ≡ true → Answers (asksTime (numberOf (drop 4 line))) clocks out at r out′
+          → Answers (asks clocks line) clocks out at r out′
       unfolding asks
       by-time f a = rw (no-read, no-write, f) a
 
       module _ (no-time : beginsLike (text "now ") line ≡ false) where
-        pub by-state : fitsOf (text "state") line ≡ true → Answers showState clocks out at r out′ → Answers (asks clocks line) clocks out at r out′
+        pub by-state : fitsOf (text "state") line ≡ true → Answers showState clocks out at r out′
+            → Answers (asks clocks line) clocks out at r out′
         unfolding asks
         by-state f a = rw (no-read, no-write, no-time, f) a
 
-        pub by-saved : fitsOf (text "state") line ≡ false → Answers (asksSaved clocks line) clocks out at r out′ → Answers (asks clocks line) clocks out at r out′
+        pub by-saved : fitsOf (text "state") line ≡ false → Answers (asksSaved clocks line) clocks out at r out′
+            → Answers (asks clocks line) clocks out at r out′
         unfolding asks
         by-saved f a = rw (no-read, no-write, no-time, f) a
 
@@ -133,17 +146,20 @@ module _ (line : List ℕ) {clocks : Clocks} {out out′ : List ℕ} {at : ℕ} 
   by-save f a = rw f a
 
   module _ (no-save : fitsOf (text "save") line ≡ false) where
-    pub by-kept : fitsOf (text "restore") line ≡ true → Answers (asksKept clocks) clocks out at r out′ → Answers (asksSaved clocks line) clocks out at r out′
+    pub by-kept : fitsOf (text "restore") line ≡ true → Answers (asksKept clocks) clocks out at r out′
+        → Answers (asksSaved clocks line) clocks out at r out′
     unfolding asksSaved
     by-kept f a = rw (no-save, f) a
 
     module _ (no-kept : fitsOf (text "restore") line ≡ false) where
-      pub by-restore : {saved : List ℕ} → fitsOf (text "restore LLLLLLLL OOOOOOOOOOOOOOOO MMMMMMMM KKKKKKKK RRRRRRRR") line ≡ true → saved ≡ wordsIn line
+      pub by-restore : {saved : List ℕ} → fitsOf (text "restore LLLLLLLL OOOOOOOOOOOOOOOO MMMMMMMM KKKKKKKK RRRRRRRR") line ≡ true
+          → saved ≡ wordsIn line
           → Answers (restore saved) clocks out at r out′ → Answers (asksSaved clocks line) clocks out at r out′
       unfolding asksSaved
       by-restore f e a = rw (no-save, no-kept, f, ← e) a
 
-      pub by-nothing : fitsOf (text "restore LLLLLLLL OOOOOOOOOOOOOOOO MMMMMMMM KKKKKKKK RRRRRRRR") line ≡ false → Answers nothing clocks out at r out′
+      pub by-nothing : fitsOf (text "restore LLLLLLLL OOOOOOOOOOOOOOOO MMMMMMMM KKKKKKKK RRRRRRRR") line ≡ false
+          → Answers nothing clocks out at r out′
           → Answers (asksSaved clocks line) clocks out at r out′
       unfolding asksSaved
       by-nothing f a = rw (no-save, no-kept, f) a

@@ -87,12 +87,13 @@ writeSaid isValid = cond isValid (text "w ok\n") (text "w invalid\n")
 abbrev pub writeSays : Change → List ℕ
 writeSays change = writeSaid (valid (writeAnswer change))
 
--- After `state` or `save`: the load register, the two halves of what the clock is ahead of the host's time, the match register, the mask and the raw
--- status.
+-- After `state` or `save`: the load register, the two halves of what the clock is ahead of the host's time, the match register, the mask
+-- and the raw status.
 abbrev pub stateSays : List ℕ → List ℕ → List ℕ
 stateSays name words =
     name ++ (text " " ++ wordDigits (getD words 0 0)) ++ (text " " ++ wordDigits (getD words 5 0)) ++ wordDigits (getD words 4 0) ++
-    (text " " ++ wordDigits (getD words 1 0)) ++ (text " " ++ wordDigits (getD words 2 0)) ++ (text " " ++ wordDigits (getD words 3 0)) ++ text "\n"
+    (text " " ++ wordDigits (getD words 1 0)) ++ (text " " ++ wordDigits (getD words 2 0)) ++ (text " " ++ wordDigits (getD words 3 0)) ++
+    text "\n"
 
 abbrev pub restoreSays : Bool → List ℕ
 restoreSays reached = cond reached (text "restore reached\n") (text "restore unreached\n")

@@ -23,7 +23,8 @@ use Rattle.clock_saved.proofs.Reachable.{fresh-reachable, run-reachable
 
 -- ---- A write of a number
 
-wrote : (c c′ : Clock) (time offset v : ℕ) → v < 2 ^ 32 → writeOf c time offset v ≡ becomes c′ → next c (write time offset (bytesOf 4 v)) ≡ c′
+wrote : (c c′ : Clock) (time offset v : ℕ) → v < 2 ^ 32 → writeOf c time offset v ≡ becomes c′
+    → next c (write time offset (bytesOf 4 v)) ≡ c′
 unfolding next
 wrote c c′ time offset v h e = rw (value-of-bytes 4 v h, e)
 
@@ -128,7 +129,8 @@ words-exact words = (come, only)
 
     only : ReachedWords words → ReachableWords words
     only r =
-        let comes : clockOf words ≡ after fresh (r .run) = as-defined (r .called) .1 ∙ ap (λ (c : Clock). after c (r .run)) (r .inits .clock) in
+        let comes : clockOf words ≡ after fresh (r .run) = as-defined (r .called) .1
+        ∙ ap (λ (c : Clock). after c (r .run)) (r .inits .clock) in
         record {
           clock = rw comes (run-reachable fresh (r .run) (r .in-range) fresh-reachable);
           spare = same-spare words (r .made) (spare-stays (r .called)) ∙ r .inits .spare;

@@ -31,7 +31,8 @@ module _ {clock saved other : List ℕ} {r : ℕ} (s : saved ≡ clock) (p : Res
   same-run run = (ap (λ (c : Clock). results c run) same-clock, ap (λ (c : Clock). after c run) same-clock)
 
   -- and by the calls on both.
-  pub same-calls : {run : List Access} {clock′ other′ : List ℕ} {rs ss : List Result} → Called other run other′ rs → Called clock run clock′ ss
+  pub same-calls : {run : List Access} {clock′ other′ : List ℕ} {rs ss : List Result} → Called other run other′ rs
+      → Called clock run clock′ ss
       → (rs ≡ ss) × (clockOf other′ ≡ clockOf clock′)
   same-calls = same-for-ever same-clock
 

@@ -25,13 +25,13 @@ InRange (write time offset bytes) = Fits time offset bytes
 abbrev pub Reached : Clock → Type 0
 Reached c = (run : List Access) × All InRange run × (after fresh run ≡ c)
 
--- At some second of 32 bits a clock that is so far ahead showed this value. A fresh one, and one that was put back to the host's time, showed 0 at
--- second 0.
+-- At some second of 32 bits a clock that is so far ahead showed this value. A fresh one, and one that was put back to the host's time,
+-- showed 0 at second 0.
 abbrev pub ShowedAt : ℤ → ℕ → Type 0
 ShowedAt ahead value = (now : ℕ) × (now < 2 ^ 32) × (ahead ≡ pos value -ℤ pos now)
 
--- The same as `Reached`, said of the registers: the mask has one bit, nothing raises the status, and the clock showed the load register's value at
--- some second.
+-- The same as `Reached`, said of the registers: the mask has one bit, nothing raises the status, and the clock showed the load register's
+-- value at some second.
 pub record Reachable (c : Clock) : Type 0 where
   pub mr : c .mr < 2 ^ 32
   pub lr : c .lr < 2 ^ 32

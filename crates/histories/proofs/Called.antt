@@ -10,13 +10,15 @@ use Rattle.play.specs.Play.{word}
 use Rattle.serial_saved.specs.Saved.{Restore, restoreOf}
 use Rattle.serial_saved.proofs.Saving.{restore-word}
 use Rattle.histories.specs.History.{Deed, does, save, restore, bring, Standing, begins, backTo, Host, starts, next, after}
-use Rattle.histories.specs.Calls.{Memory, SavedMemory, portIn, savedIn, Brought, Called, none, then, saves, restores, brings, Tells, Heard}
+use Rattle.histories.specs.Calls.{Memory, SavedMemory, portIn, savedIn, Brought, Called, none, then, saves, restores, brings, Tells}
+use Rattle.histories.specs.Calls.{Heard}
 use Rattle.histories.proofs.Histories.{brings-back}
 
 -- what was kept in memory is what the host keeps
 data Same : List SavedMemory → List Standing → Type 0 where
   both-none : Same [] []
-  both-one : {w : SavedMemory} {s : Standing} {ws : List SavedMemory} {ss : List Standing} → savedIn w ≡ s .port → Same ws ss → Same (w ∷ ws) (s ∷ ss)
+  both-one : {w : SavedMemory} {s : Standing} {ws : List SavedMemory} {ss : List Standing} → savedIn w ≡ s .port → Same ws ss
+      → Same (w ∷ ws) (s ∷ ss)
 
 same-one : {ws : List SavedMemory} {ss : List Standing} → Same ws ss → (n : ℕ) (w : SavedMemory) (s : Standing) → n < length ws
     → savedIn (getD ws n w) ≡ getD ss n s .port
@@ -43,7 +45,8 @@ record Follows (h : Host) (ds : List Deed) (m : Memory) (rs : List ℕ) : Type 0
   pub port : portIn m ≡ after h ds .here .port
   pub heard : Heard h ds rs
 
-follows : {m m′ : Memory} {kept : List SavedMemory} (h : Host) {ds : List Deed} {rs : List ℕ} → portIn m ≡ h .here .port → Same kept (h .kept)
+follows : {m m′ : Memory} {kept : List SavedMemory} (h : Host) {ds : List Deed} {rs : List ℕ} → portIn m ≡ h .here .port
+    → Same kept (h .kept)
     → Called m kept ds m′ rs → Follows h ds m′ rs
 unfolding after
 follows h e k none = record { port = e; heard = refl }
@@ -64,9 +67,11 @@ follows h e k (brings w b c) =
     record { port = more .port; heard = (told (h .here) saved e refl b, more .heard) }
 
 -- From the first call on, from any memory: the port,
-pub called-from : {m m′ : Memory} {ds : List Deed} {rs : List ℕ} → Called m [] ds m′ rs → portIn m′ ≡ after (starts (portIn m)) ds .here .port
+pub called-from : {m m′ : Memory} {ds : List Deed} {rs : List ℕ} → Called m [] ds m′ rs
+    → portIn m′ ≡ after (starts (portIn m)) ds .here .port
 called-from {m} c = follows (starts (portIn m)) refl both-none c .port
 
--- and what the host heard: the answers of the operations, how many bytes were saved, and of each restore whether it was refused and how often it raised.
+-- and what the host heard: the answers of the operations, how many bytes were saved, and of each restore whether it was refused and how
+-- often it raised.
 pub heard-from : {m m′ : Memory} {ds : List Deed} {rs : List ℕ} → Called m [] ds m′ rs → Heard (starts (portIn m)) ds rs
 heard-from {m} c = follows (starts (portIn m)) refl both-none c .heard

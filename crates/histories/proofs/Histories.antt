@@ -18,7 +18,8 @@ use Rattle.runs.proofs.Conserved.{conserved, never-more, run-size}
 use Rattle.runs.proofs.Status.{stays-true}
 use Rattle.runs.proofs.Reachable.{step-reachable}
 use Rattle.serial_saved.specs.Saved.{fits, raisedAgain, Restore, restoreOf}
-use Rattle.histories.specs.History.{Deed, does, save, restore, bring, Standing, begins, goesOn, backTo, Host, starts, next, after, savesIn, Each}
+use Rattle.histories.specs.History.{Deed, does, save, restore, bring, Standing, begins, goesOn, backTo, Host, starts, next, after}
+use Rattle.histories.specs.History.{savesIn, Each}
 
 -- ---- What every standing of a host has, if what comes from outside has it
 
@@ -162,7 +163,8 @@ kept-on h (save ∷ ds) n other =
 kept-on h (restore m ∷ ds) n other = kept-on (next h (restore m)) ds n other
 kept-on h (bring p ∷ ds) n other = kept-on (next h (bring p)) ds n other
 
--- Whatever the host did since, other savings and restores among it: the port and its history are those from before, as if nothing between had been.
+-- Whatever the host did since, other savings and restores among it: the port and its history are those from before, as if nothing between
+-- had been.
 pub undone : (h : Host) (ds : List Deed) → fits (h .here .port) ≡ true → after h (save ∷ ds ++ restore (savesIn ds) ∷ []) .here ≡ h .here
 unfolding after backTo
 undone h ds f =
@@ -180,7 +182,8 @@ take-first (suc k) [] b h = absurd (omega arith)
 take-first (suc k) (x ∷ a) b h = ap (λ (l : List ℕ). x ∷ l) (take-first k a b (omega arith))
 
 -- From a restored port the first bytes to be delivered are those that waited when it was saved ..
-pub first-delivered : (p : Port) (os : List Op) (k : ℕ) → k ≤ length (p .waiting) → let d = allDelivered (bookOf p) os (run p os .answers) in
+pub first-delivered : (p : Port) (os : List Op) (k : ℕ) → k ≤ length (p .waiting)
+    → let d = allDelivered (bookOf p) os (run p os .answers) in
     k ≤ length d → take k d ≡ take k (p .waiting)
 first-delivered p os k w h =
     let r = run p os in
@@ -189,8 +192,8 @@ first-delivered p os k w h =
     ∙ ap (take k) (sym (conserved p os))
     ∙ take-first k (p .waiting) (allAccepted b os (r .answers)) w
 
--- .. so those of them that had been delivered since are delivered again, the same and in the same order. What was accepted since then is not there:
--- from then on `conserved` speaks of what waited when it was saved and of what is accepted afterwards.
+-- .. so those of them that had been delivered since are delivered again, the same and in the same order. What was accepted since then is
+-- not there: from then on `conserved` speaks of what waited when it was saved and of what is accepted afterwards.
 pub delivered-again : (p : Port) (os more : List Op) (k : ℕ) → k ≤ length (p .waiting)
     → let a = allDelivered (bookOf p) os (run p os .answers) in let b = allDelivered (bookOf p) more (run p more .answers) in
     k ≤ length a → k ≤ length b → take k b ≡ take k a

@@ -1,3 +1,4 @@
 pub mod Restored
 pub mod Histories
 pub mod Called
+pub mod Line

@@ -19,7 +19,8 @@ pub same-runs : {regs pos ring w saved w′ : List ℕ} {n : ℕ} (s : Saves reg
     (os : List Op) → run (portOf regs′ pos′ ring′) os ≡ run (portOf regs pos ring) os
 same-runs s b os = ap (λ (p : Port). run p os) (restore-after-save s b .1)
 
--- A restore says "reachable" of a state exactly if some run of bytes from a fresh port comes to it, with spare registers as a fresh port has them.
+-- A restore says "reachable" of a state exactly if some run of bytes from a fresh port comes to it, with spare registers as a fresh port
+-- has them.
 pub reached-exactly : {regs pos ring saved waiting regs′ pos′ ring′ : List ℕ} {r : ℕ} (b : Restores regs pos ring saved waiting regs′ pos′ ring′ r)
     → (r / 0x4_0000 % 2 ≡ 1) ↔ (Reached size (savedOf saved waiting) × (spareRegisters saved ≡ freshSpareRegisters))
 reached-exactly {saved = saved} {waiting = waiting} b =

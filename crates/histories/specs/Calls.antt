@@ -31,8 +31,8 @@ savedIn w = savedOf (w .regs) (w .waiting)
 abbrev pub Brought : Memory → SavedMemory → Memory → ℕ → Type 0
 Brought m w m′ r = Restores (m .regs) (m .pos) (m .ring) (w .regs) (w .waiting) (m′ .regs) (m′ .pos) (m′ .ring) r
 
--- From a memory and what was kept, the last first, to the memory after the deeds; and the word that each call answered. The host restores only
--- what it kept.
+-- From a memory and what was kept, the last first, to the memory after the deeds; and the word that each call answered. The host restores
+-- only what it kept.
 pub data Called : Memory → List SavedMemory → List Deed → Memory → List ℕ → Type 0 where
   none : {m : Memory} {kept : List SavedMemory} → Called m kept [] m []
   then : {m m′ m″ : Memory} {kept : List SavedMemory} {ds : List Deed} {o : Op} {r : ℕ} {rs : List ℕ}
@@ -56,5 +56,6 @@ Heard h [] rs = rs ≡ []
 Heard h (d ∷ ds) [] = ⊥
 Heard h (does o ∷ ds) (r ∷ rs) = (r ≡ word (step (h .here .port) o .answer)) × Heard (next h (does o)) ds rs
 Heard h (save ∷ ds) (r ∷ rs) = (r ≡ length (h .here .port .waiting)) × Heard (next h save) ds rs
-Heard h (restore n ∷ ds) (r ∷ rs) = Tells (restoreOf (h .here .port) (getD (h .kept) n (h .here) .port)) r × Heard (next h (restore n)) ds rs
+Heard h (restore n ∷ ds) (r ∷ rs) =
+    Tells (restoreOf (h .here .port) (getD (h .kept) n (h .here) .port)) r × Heard (next h (restore n)) ds rs
 Heard h (bring p ∷ ds) (r ∷ rs) = Tells (restoreOf (h .here .port) p) r × Heard (next h (bring p)) ds rs

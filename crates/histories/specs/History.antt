@@ -1,12 +1,12 @@
 -- A port that its host saves and restores while it runs: which operations still count.
 use Prim.Native.Nat.{ℕ, suc}
 use mathlib.Core.Path.{_≡_}
-use mathlib.Core.Bool.{true, cond}
+use mathlib.Core.Bool.{Bool, true, cond}
 use mathlib.Core.List.{List, [], _∷_, _++_}
 use lib.ListN.{getD}
-use Rattle.serial.specs.Port.{Port}
-use Rattle.runs.specs.Run.{Op, Answer, step}
-use Rattle.serial_saved.specs.Saved.{fits}
+use Rattle.serial.specs.Port.{Port, line}
+use Rattle.runs.specs.Run.{Op, Answer, raisesOf, step}
+use Rattle.serial_saved.specs.Saved.{fits, restoreOf}
 
 -- What a host does: an operation of a run; it saves the port and keeps that; it restores one that it kept, 0 the last, 1 the one before; it
 -- restores one that was saved elsewhere.
@@ -69,3 +69,15 @@ Each O P (does o ∷ ds) = O o × Each O P ds
 Each O P (save ∷ ds) = Each O P ds
 Each O P (restore n ∷ ds) = Each O P ds
 Each O P (bring p ∷ ds) = (fits p ≡ true → P p) × Each O P ds
+
+-- ---- The interrupt line along it
+
+abbrev pub lineHere : Host → Bool
+lineHere h = line (h .here .port)
+
+-- How often a deed raises.
+abbrev pub raisesBy : Host → Deed → ℕ
+raisesBy h (does o) = raisesOf (step (h .here .port) o .answer)
+raisesBy h save = 0
+raisesBy h (restore n) = restoreOf (h .here .port) (getD (h .kept) n (h .here) .port) .raises
+raisesBy h (bring p) = restoreOf (h .here .port) p .raises

@@ -22,7 +22,8 @@ manualResets command = pulses command 0
 unfoldable pub deviceResets : ℕ → Bool
 deviceResets command = pulses command 0 && not (pulses command 1) && not (pulses command 2) && not (pulses command 3)
 
--- A write asks for a reset if it brings that command to the command port. Any other write does nothing: DIFFERENCES, "i8042-other-commands".
+-- A write asks for a reset if it brings that command to the command port. Any other write does nothing: DIFFERENCES,
+-- "i8042-other-commands".
 unfoldable pub writeResets : ℕ → ℕ → Bool
 writeResets offset value = eqb offset commandPort && deviceResets value
 

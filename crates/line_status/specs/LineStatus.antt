@@ -1,6 +1,6 @@
--- LSR: 0x01 data ready; 0x20 transmitter holding register empty and 0x40 transmitter empty, which a fresh device has at 1 and nothing changes:
--- what is written has left at once: DIFFERENCES, "serial-instant-transmitter". The manual's 0x02, overrun, never comes: DIFFERENCES,
--- "serial-loop-overrun" and "serial-line-overrun".
+-- LSR: 0x01 data ready; 0x20 transmitter holding register empty and 0x40 transmitter empty, which a fresh device has at 1 and nothing
+-- changes: what is written has left at once: DIFFERENCES, "serial-instant-transmitter". The manual's 0x02, overrun, never comes:
+-- DIFFERENCES, "serial-loop-overrun" and "serial-line-overrun".
 use Prim.Native.Nat.{ℕ}
 use mathlib.Core.Bool.{Bool, true, false}
 use lib.Bits.{bitAnd, bitOr}

@@ -1,19 +1,20 @@
--- What the proofs about single calls share: the two maps of offsets are one, the chip's pin and code in the device's words, and how a call comes to agree.
+-- What the proofs about single calls share: the two maps of offsets are one, the chip's pin and code in the device's words, and how a call
+-- comes to agree.
 use mathlib.Core.Path.{_≡_, refl, sym, ap, _∙_}
 use mathlib.Core.List.{List, [], _∷_}
-use mathlib.Core.Bool.{Bool, true, false, cond, _&&_, _||_, true≢false, false≢true, or-false}
-use Prim.Native.Nat.{ℕ, zero, suc, _<_}
+use mathlib.Core.Bool.{Bool, true, false, cond, not, _&&_, _||_, true≢false, false≢true, or-false, and-true, and-false, and-comm}
+use Prim.Native.Nat.{ℕ, zero, suc, _+_, _<_}
 use native.Mathlib.Omega.{arith}
 use lib.ListN.{length}
 use lib.Dec.{ltb, eqb}
 use borrow.Author.Tests.{ne-eqb, le-ltb}
 use Rattle.common.specs.Lists.{some}
-use Rattle.interrupts.specs.Interrupts.{receivedData, transmitterEmpty}
-use Rattle.serial.specs.Port.{Port, Register, addressed, RBR-THR, IER, IIR-FCR, LCR, MCR, LSR, MSR, SCR, DLL, DLM, reserved}
+use Rattle.interrupts.specs.Interrupts.{receivedData, transmitterEmpty, isHigh, code, newly}
+use Rattle.serial.specs.Port.{Port, Register, addressed, active, line, RBR-THR, IER, IIR-FCR, LCR, MCR, LSR, MSR, SCR, DLL, DLM, reserved}
 use Rattle.sidebyside.specs.Answers.{Said, Answer, Fits}
-use Rattle.pc16550d.specs.Chip.{Chip, pin, code, registerAt}
+use Rattle.pc16550d.specs.Chip.{Chip, pin, registerAt, loads, held, rising, rises}
 use Rattle.pc16550d.specs.Chip as chip
-use Rattle.pc16550d.specs.Compare.{Done, chipOf, enables, marks, Agrees}
+use Rattle.pc16550d.specs.Compare.{Done, chipOf, enables, Agrees}
 
 -- ---- Offsets
 
@@ -54,72 +55,83 @@ same-map dlab (suc (suc (suc (suc (suc (suc (suc (suc n)))))))) =
 
 -- ---- The pin and the code of a port, read as the chip's
 
-shut : (e m : Bool) → ((e && m) && e) ≡ (e && m)
+-- The transmitter's interrupt is pending on the chip where it is active on the device.
+shut : (e s : Bool) → ((e && s) && e) ≡ (e && s)
 shut true true = refl
 shut true false = refl
-shut false m = refl
+shut false s = refl
 
--- The pin is high while a byte waits and received data is enabled, or the transmitter's kind is enabled and marked.
-unfoldable pub level : Port → Bool
-level p = some (p .waiting) && enables p receivedData || enables p transmitterEmpty && marks p transmitterEmpty
+pub pin-is : (p : Port) → pin (chipOf p) ≡ line p
+unfolding pin chipOf isHigh
+pin-is p = rw (or-false, shut, and-comm (some (p .waiting)))
 
-pub pin-is : (p : Port) → pin (chipOf p) ≡ level p
-unfolding pin chipOf level
-pin-is p = rw (or-false, shut)
+-- While THR holds a byte the pin is high for received data alone.
+pub held-pin : (p : Port) → pin (held (chipOf p)) ≡ active p receivedData
+unfolding pin chipOf loads
+held-pin p =
+    or-false ((some (p .waiting) && enables p receivedData) || false)
+    ∙ or-false (some (p .waiting) && enables p receivedData) ∙ and-comm (some (p .waiting)) (enables p receivedData)
 
 -- At trigger level 1 there is no time-out.
-reached : (waiting : List ℕ) (t : Bool) (v : ℕ) → cond (some waiting && t) (cond (ltb (length waiting) 1) 0x0c 0x04) v ≡ cond (some waiting && t) 0x04 v
-reached [] t v = refl
-reached (x ∷ xs) t v = rw (le-ltb (length (x ∷ xs)) 1 (omega arith))
+reached : (waiting : List ℕ) (t : Bool) (v : ℕ)
+    → cond (some waiting && t) (cond (ltb (length waiting) 1) 0x0c 0x04) v ≡ cond (t && some waiting) 0x04 v
+reached [] t v = rw (and-false t)
+reached (x ∷ xs) t v = rw (le-ltb (length (x ∷ xs)) 1 (omega arith), and-true t)
 
--- The code is received data, or the transmitter's kind, or none.
-unfoldable pub shown : Port → ℕ
-shown p = cond (some (p .waiting) && enables p receivedData) 0x04 (cond (enables p transmitterEmpty && marks p transmitterEmpty) 0x02 0x01)
+pub code-is : (p : Port) → chip.code (chipOf p) ≡ code (p .settings .ier) (p .iir) (some (p .waiting))
+unfolding chip.code chipOf code
+code-is p = rw shut (reached (p .waiting) (enables p receivedData) (cond (active p transmitterEmpty) 0x02 0x01))
 
-pub code-is : (p : Port) → code (chipOf p) ≡ shown p
-unfolding code chipOf shown
-code-is p = rw shut (reached (p .waiting) (enables p receivedData) (cond (enables p transmitterEmpty && marks p transmitterEmpty) 0x02 0x01))
+-- ---- A call agrees if its answer, the bytes sent and the chip after it do, and the signal fits the line
 
--- ---- A call agrees if its answer, the bytes sent and the chip after it do, and the signal fits the pin before and after it
+pub agrees-by : (p : Port) {d : Done} {c : chip.Out} → Fits (d .reply) (c .reply) → d .sent ≡ c .sent → chipOf (d .port) ≡ c .chip
+    → (rises (chipOf p) c ≡ true → 0 < d .raises) → (0 < d .raises → line (d .port) ≡ true) → Agrees (chipOf p) d c
+agrees-by p {d} {c} reply sent next rise high =
+    let level : line (d .port) ≡ pin (c .chip) = sym (pin-is (d .port)) ∙ ap pin next in
+    record { alike = record { reply = reply; sent = sent; rise = rise; high = λ h. sym level ∙ high h; level = level }; next = next }
 
+-- Where the line, low at one moment, is high at the next, the interrupt is raised; where that is raised the line is high.
 pub record Signal (before after : Bool) (raises : ℕ) : Type 0 where
   pub rise : before ≡ false → after ≡ true → 0 < raises
   pub high : 0 < raises → after ≡ true
 
-pub agrees : (p : Port) {d : Done} {c : chip.Out} → Fits (d .reply) (c .reply) → d .sent ≡ c .sent → chipOf (d .port) ≡ c .chip
-    → Signal (level p) (level (d .port)) (d .raises) → Agrees (chipOf p) d c
-agrees p {d} {c} reply sent next s = record {
-  alike = record {
-    reply = reply;
-    sent = sent;
-    rise = λ before after. s .rise (sym (pin-is p) ∙ before) (sym (pin-is (d .port)) ∙ ap pin next ∙ after);
-    high = λ h. sym (ap pin next) ∙ pin-is (d .port) ∙ s .high h;
-  };
-  next = next;
-}
+rose : (b a : Bool) → (not b && a) ≡ true → (b ≡ false) × (a ≡ true)
+rose true a e = absurd (false≢true e)
+rose false a e = (refl, e)
 
--- Nothing is raised, and the pin does not rise.
+-- There is no moment in between.
+pub agrees : (p : Port) {d : Done} {c : Chip} {s : Said} → Fits (d .reply) s → d .sent ≡ [] → chipOf (d .port) ≡ c
+    → Signal (line p) (line (d .port)) (d .raises) → Agrees (chipOf p) d (chip.replies c s)
+unfolding rising
+agrees p {d} {c} reply sent next signal =
+    agrees-by p reply sent next
+    (λ e. (let r = rose (pin (chipOf p)) (pin c) e in signal .rise (sym (pin-is p) ∙ r .0) (sym (pin-is (d .port)) ∙ ap pin next ∙ r .1)))
+    (signal .high)
+
+-- Nothing is raised, and the line does not rise.
 pub calm : {before after : Bool} → (before ≡ false → after ≡ false) → Signal before after 0
 calm low = record { rise = λ before after. absurd (true≢false (sym after ∙ low before)); high = λ h. absurd (omega arith) }
 
-pub still : {level : Bool} → Signal level level 0
-still = calm (λ e. e)
-
--- Nothing is sent or raised, and the pin is as it was.
-pub quietly : (p : Port) {q : Port} {a : Answer} {c : Chip} {s : Said} → Fits a s → chipOf q ≡ c → level q ≡ level p
+-- Nothing is sent or raised, and the line is as it was.
+pub quietly : (p : Port) {q : Port} {a : Answer} {c : Chip} {s : Said} → Fits a s → chipOf q ≡ c → line q ≡ line p
     → Agrees (chipOf p) (record { port = q; reply = a; sent = []; raises = 0 }) (chip.replies c s)
 quietly p reply next same = agrees p reply refl next (calm (λ before. same ∙ before))
 
--- The interrupt is raised, and the pin is high.
-pub raised : {before : Bool} → Signal before true 1
-raised = record { rise = λ before after. omega arith; high = λ h. refl }
+pub none-raised : (r t : Bool) → 0 < newly r false + newly t false → ⊥
+none-raised r t h = omega (arith, (rw (and-false (not r), and-false (not t)) at h))
+
+pub neither : (r t : Bool) → (r || t) ≡ false → (r ≡ false) × (t ≡ false)
+neither true t e = absurd (true≢false e)
+neither false t e = (refl, e)
+
+-- Each kind that becomes active is raised. r, t: received data and the transmitter's interrupt before the call; r′, t′: after it.
+pub each-raised : (r′ t′ r t : Bool) → Signal (r || t) (r′ || t′) (newly r r′ + newly t t′)
+each-raised true t′ r t = record { rise = λ low high. rw (neither r t low .0) (omega arith); high = λ h. refl }
+each-raised false true r t = record { rise = λ low high. rw (neither r t low .0, neither r t low .1) (omega arith); high = λ h. refl }
+each-raised false false r t = record { rise = λ low high. absurd (false≢true high); high = λ h. absurd (none-raised r t h) }
 
 -- ---- Booleans
 pub both-true : (a b : Bool) → (a && b) ≡ true → (a ≡ true) × (b ≡ true)
 both-true true true e = (refl, refl)
 both-true true false e = absurd (false≢true e)
 both-true false b e = absurd (false≢true e)
-
-pub second-false : (a b : Bool) → (a && b) ≡ false → a ≡ true → b ≡ false
-second-false true b e f = e
-second-false false b e f = absurd (false≢true f)

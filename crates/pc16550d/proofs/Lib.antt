@@ -1,9 +1,10 @@
--- In the order of the proof: calls one register at a time, all calls, runs; then what is computed: each row shown, the chip by itself, useful runs.
+-- In the order of the proof: calls one register at a time, all calls, runs; then what is computed: each row shown, the chip by itself,
+-- useful runs.
 pub mod Agreement
-pub mod Marking
 pub mod Reading
 pub mod Receiving
 pub mod Writing
+pub mod Transmitting
 pub mod Enabling
 pub mod OnLine
 pub mod Exact

@@ -1,21 +1,24 @@
 -- Bytes that come over the line: the input agrees with the chip or is in the row of the overrun, and there it does not agree.
-use mathlib.Core.Path.{_≡_, refl, sym, ap, _∙_}
+use mathlib.Core.Path.{_≡_, refl, sym, ap, subst, _∙_}
 use mathlib.Core.Logic.{_⊎_, inl, inr}
 use mathlib.Core.List.{List, [], _∷_, _++_, append-assoc, append-nil}
-use mathlib.Core.Bool.{Bool, true, false, false≢true}
+use mathlib.Core.Bool.{Bool, true, false, _||_, false≢true}
 use Prim.Native.Nat.{ℕ, _+_, _≤_, _<_, min}
 use native.Mathlib.Omega.{arith}
 use native.Mathlib.Decide.{decLt}
+use native.Mathlib.Nat.{add-zero}
 use lib.ListN.{length, take, length-append}
 use lib.Dec.{ltb}
 use lib.Seq.{take-all}
 use borrow.Author.Tests.{ne-eqb, lt-ltb, le-ltb}
 use Rattle.common.specs.Lists.{some}
-use Rattle.serial.specs.Port.{Port, inLoop, inputOf}
+use Rattle.interrupts.specs.Interrupts.{receivedData, transmitterEmpty, isHigh, newly}
+use Rattle.interrupts.proofs.Laws.{newly-same}
+use Rattle.serial.specs.Port.{Port, active, inLoop, inputOf}
 use Rattle.serial.specs.Port as device
 use Rattle.pc16550d.specs.Chip.{Chip, Receiver, holding, depth, arrives, arriveAll, fromLine}
-use Rattle.pc16550d.specs.Compare.{fed, chipOf, Sound, Agrees, Row, receives, serial-line-overrun}
-use Rattle.pc16550d.proofs.Agreement.{agrees, quietly}
+use Rattle.pc16550d.specs.Compare.{fed, chipOf, enables, Sound, Agrees, Row, receives, serial-line-overrun}
+use Rattle.pc16550d.proofs.Agreement.{Signal, agrees, each-raised, quietly}
 use Rattle.pc16550d.proofs.Reading.{loop-kept}
 use Rattle.pc16550d.proofs.Receiving.{received}
 
@@ -33,7 +36,8 @@ lost : (r : Receiver) (x : ℕ) → r .fifos ≡ true → 16 ≤ length (r .wait
 unfolding arrives
 lost r x f h = rw (f, le-ltb (length (r .waiting)) 16 h)
 
-all-fit : (r : Receiver) (xs : List ℕ) → r .fifos ≡ true → length (r .waiting) + length xs ≤ 16 → arriveAll r xs ≡ holding r (r .waiting ++ xs) (r .overrun)
+all-fit : (r : Receiver) (xs : List ℕ) → r .fifos ≡ true → length (r .waiting) + length xs ≤ 16
+    → arriveAll r xs ≡ holding r (r .waiting ++ xs) (r .overrun)
 unfolding arriveAll
 all-fit r [] f h = ap (λ (w : List ℕ). holding r w (r .overrun)) (sym (append-nil (r .waiting)))
 all-fit r (x ∷ xs) f h =
@@ -64,15 +68,22 @@ loses r x (y ∷ ys) f h = go (loses (holding r (r .waiting ++ (x ∷ [])) (r .o
     go again (yes l) = ap (λ (s : Receiver). arriveAll s (y ∷ ys) .overrun) (fits r x f l) ∙ again (simp length-append (omega arith))
 
 -- ---- Both
-line-agrees : (p : Port) (x : ℕ) (xs : List ℕ) → Sound p → inLoop p ≡ false → length (p .waiting) + length (x ∷ xs) ≤ 16 → InputAgrees p (x ∷ xs)
-unfolding chipOf inputOf fromLine
+-- r, t: received data and the transmitter's interrupt before it; e: received data is enabled.
+data-raised : (r e t : Bool) → Signal (r || t) (e || t) (newly r e)
+data-raised r e t = subst (Signal (r || t) (e || t)) (rw (newly-same t) (add-zero _)) (each-raised e t r t)
+
+line-agrees : (p : Port) (x : ℕ) (xs : List ℕ) → Sound p → inLoop p ≡ false → length (p .waiting) + length (x ∷ xs) ≤ 16
+    → InputAgrees p (x ∷ xs)
+unfolding chipOf inputOf fromLine isHigh
 line-agrees p x xs k l h =
-    let r = received p k x xs in
+    let r = received p x xs in
     let s = k .size in
+    let d = active p receivedData in
+    let t = active p transmitterEmpty in
     let all : take (min (device.roomOf p) (length (x ∷ xs))) (x ∷ xs) ≡ x ∷ xs = take-all (min (device.roomOf p) (length (x ∷ xs))) (x ∷ xs) (omega arith) in
     let none-lost = all-fit (chipOf p .receiver) (x ∷ xs) refl h in
     simp (loop-kept, l, none-lost, lt-ltb (length (p .waiting)) (p .size) (omega arith), ne-eqb (length (x ∷ xs)) 0 (omega arith), all)
-    (agrees p (omega arith) refl (r .next) (r .signal))
+    (agrees p (omega arith) refl (r .next) (rw (r .level, r .raised) (data-raised d (enables p receivedData) t)))
 
 line-input : (p : Port) (bytes : List ℕ) → Sound p → (l : Bool) → inLoop p ≡ l → InputAgrees p bytes ⊎ Row p (receives bytes)
 unfolding chipOf inputOf fromLine arriveAll
@@ -89,7 +100,8 @@ pub input-complete : (p : Port) → Sound p → (bytes : List ℕ) → InputAgre
 input-complete p k bytes = line-input p bytes k _ refl
 
 -- In the row it does not agree: the chip says "overrun".
-overrun-differs : (p : Port) (bytes : List ℕ) → inLoop p ≡ false → some bytes ≡ true → 16 < length (p .waiting) + length bytes → InputAgrees p bytes → ⊥
+overrun-differs : (p : Port) (bytes : List ℕ) → inLoop p ≡ false → some bytes ≡ true → 16 < length (p .waiting) + length bytes
+    → InputAgrees p bytes → ⊥
 unfolding chipOf inputOf fromLine
 overrun-differs p [] l s h r = false≢true s
 overrun-differs p (x ∷ xs) l s h r =

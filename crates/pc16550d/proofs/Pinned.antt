@@ -1,5 +1,5 @@
--- The chip by itself, from a master reset: runs with the answers that the data sheet's rules give. Inside a row nothing else holds the definition to
--- the sheet.
+-- The chip by itself, from a master reset: runs with the answers that the data sheet's rules give. Inside a row nothing else holds the
+-- definition to the sheet.
 use mathlib.Core.Path.{_≡_, refl}
 use mathlib.Core.Bool.{true, false}
 use mathlib.Core.List.{List, [], _∷_, _++_}
@@ -7,7 +7,7 @@ use Prim.Native.Nat.{ℕ}
 use Rattle.sidebyside.specs.Runs.{Step, does, tells, hushes, Told, chipAfter}
 use Rattle.pc16550d.specs.Chip.{Chip, Op, read, write, input, masterReset}
 use Rattle.pc16550d.specs.Compare.{pair}
-use Rattle.pc16550d.specs.Runs.{sends, pinOf}
+use Rattle.pc16550d.specs.Runs.{sends, pinOf, risesOf}
 use Rattle.pc16550d.proofs.Computing.{computing}
 
 -- A write; a read and its answer; a read of which the manual says nothing; bytes over the line and how many arrive.
@@ -71,8 +71,8 @@ module _ (c : Chip) where
   abbrev allPending : Chip
   allPending = chipAfter pair reset (write 2 0x01 ∷ input seventeen ∷ write 4 0x10 ∷ read 6 ∷ write 4 0x12 ∷ write 1 0x0f ∷ [])
 
-  -- Priority: line status, which reading LSR resets; received data, which lasts while a byte waits; the transmitter, which its own identification
-  -- resets and no other; modem status, which reading MSR resets; none.
+  -- Priority: line status, which reading LSR resets; received data, which lasts while a byte waits; the transmitter, which its own
+  -- identification resets and no other; modem status, which reading MSR resets; none.
   pub priority : Told pair allPending
       (r 2 0xc6 ∷ r 5 0x63 ∷ r 2 0xc4 ∷ r 0 0x01 ∷ r 2 0xc4 ∷ w 2 0x03 ∷ r 2 0xc2 ∷ r 2 0xc0 ∷ r 6 0x11 ∷ r 2 0xc1 ∷ [])
   unfolding computing
@@ -94,8 +94,8 @@ module _ (c : Chip) where
   unfolding computing
   each-signalled = refl
 
-  -- The transmitter signals when it is enabled. Reading IIR resets that; to enable it while it is enabled changes nothing; writing THR and enabling it
-  -- anew signal again. Without the FIFOs IIR's high bits are 0.
+  -- The transmitter signals when it is enabled. Reading IIR resets that; to enable it while it is enabled changes nothing; writing THR and
+  -- enabling it anew signal again. Without the FIFOs IIR's high bits are 0.
   pub transmitter : Told pair reset
       (w 1 0x02 ∷ r 2 0x02 ∷ r 2 0x01 ∷ w 1 0x02 ∷ r 2 0x01 ∷ w 0 0x41 ∷ r 2 0x02 ∷ r 2 0x01 ∷ w 1 0x00 ∷ r 2 0x01 ∷ w 1 0x02 ∷ r 2 0x02 ∷ [])
   unfolding computing
@@ -106,6 +106,23 @@ module _ (c : Chip) where
       ≡ true ∷ false ∷ false ∷ true ∷ false ∷ false ∷ false ∷ true ∷ []
   unfolding computing
   transmitter-pin = refl
+
+  -- A byte written to THR makes the pin fall and, as it leaves, rise; not where the transmitter's interrupt is disabled, nor while received
+  -- data keeps the pin high. Nothing else makes a pin rise that was high.
+  pub thr-rises : risesOf reset
+      (write 2 0x01 ∷ write 0 0x41 ∷ write 1 0x02 ∷ write 0 0x41 ∷ write 1 0x02 ∷ write 0 0x42 ∷ read 2 ∷ write 0 0x43
+      ∷ write 1 0x03 ∷ input (1 ∷ []) ∷ write 0 0x44 ∷ read 2 ∷ read 0 ∷ write 0 0x45 ∷ write 3 0x80 ∷ write 0 0x46 ∷ [])
+      ≡ false ∷ false ∷ true ∷ true ∷ false ∷ true ∷ false ∷ true
+      ∷ false ∷ false ∷ false ∷ false ∷ false ∷ true ∷ false ∷ false ∷ []
+  unfolding computing
+  thr-rises = refl
+
+  -- The same in the loop.
+  pub loop-rises : risesOf (chipAfter pair reset (write 2 0x01 ∷ write 4 0x10 ∷ read 6 ∷ write 1 0x02 ∷ []))
+      (write 0 0x41 ∷ write 1 0x03 ∷ write 0 0x42 ∷ read 0 ∷ read 0 ∷ write 0 0x43 ∷ [])
+      ≡ true ∷ false ∷ false ∷ false ∷ false ∷ true ∷ []
+  unfolding computing
+  loop-rises = refl
 
   -- Behind received data the transmitter's interrupt is kept: reading IIR, which shows received data, does not reset it.
   pub kept-behind-data : Told pair reset
@@ -157,8 +174,8 @@ module _ (c : Chip) where
   unfolding computing
   loop = refl
 
-  -- In the loop CTS follows RTS, DSR follows DTR, RI follows OUT1, DCD follows OUT2. That CTS, DSR or DCD changed is kept until MSR is read, and that
-  -- RI ended.
+  -- In the loop CTS follows RTS, DSR follows DTR, RI follows OUT1, DCD follows OUT2. That CTS, DSR or DCD changed is kept until MSR is
+  -- read, and that RI ended.
   pub loop-lines : Told pair (chipAfter pair reset (write 4 0x10 ∷ read 6 ∷ []))
       (w 4 0x12 ∷ r 6 0x11 ∷ r 6 0x10 ∷ w 4 0x11 ∷ r 6 0x23 ∷ w 4 0x14 ∷ r 6 0x42 ∷ w 4 0x18 ∷ r 6 0x8c ∷ w 4 0x1a ∷ w 4 0x1b ∷ r 6 0xb3
       ∷ w 4 0x10 ∷ r 6 0x0b ∷ r 6 0x00 ∷ w 4 0x12 ∷ w 4 0x10 ∷ r 6 0x01 ∷ [])

@@ -1,7 +1,7 @@
 -- A test of runs that is computed: a run that passes it meets no row.
 use mathlib.Core.Path.{_≡_, refl, sym, ap, _∙_}
 use mathlib.Core.List.{List, [], _∷_}
-use mathlib.Core.Bool.{Bool, true, false, cond, not, _&&_, _||_, true≢false, false≢true}
+use mathlib.Core.Bool.{Bool, true, false, cond, not, _&&_, _||_, false≢true}
 use Prim.Native.Nat.{ℕ, _<_}
 use native.Mathlib.Omega.{arith}
 use lib.ListN.{getD, drop}
@@ -10,11 +10,11 @@ use borrow.Author.Tests.{eqb-true, ltb-true}
 use Rattle.sidebyside.specs.Answers.{Said, says, silent, none, Answer, answers, refuses, Fits}
 use Rattle.sidebyside.specs.Runs.{RowFree}
 use Rattle.serial.specs.Port.{Port}
-use Rattle.pc16550d.specs.Chip.{Chip, Op, pin, chipDoes}
+use Rattle.pc16550d.specs.Chip.{Chip, Op, pin, chipDoes, rises}
 use Rattle.pc16550d.specs.Chip as chip
 use Rattle.pc16550d.specs.Compare.{Done, deviceDoes, chipOf, Sound, Agrees, pair}
 use Rattle.pc16550d.specs.Runs.{begins}
-use Rattle.pc16550d.proofs.Agreement.{both-true}
+use Rattle.pc16550d.proofs.Agreement.{pin-is, both-true}
 use Rattle.pc16550d.proofs.Exact.{real}
 use Rattle.pc16550d.proofs.Keeping.{keeps, fresh-sound}
 
@@ -78,12 +78,11 @@ fits-is a none e = tt
 
 -- ---- The signal
 signals : Bool → Bool → ℕ → Bool
-signals before after raises = (before || not after || ltb 0 raises) && (eqb raises 0 || after)
+signals risen after raises = (not risen || ltb 0 raises) && (eqb raises 0 || after)
 
-rises : (before after : Bool) (n : ℕ) → (before || not after || ltb 0 n) ≡ true → before ≡ false → after ≡ true → 0 < n
-rises true after n e f g = absurd (true≢false f)
-rises false true n e f g = ltb-true 0 n e
-rises false false n e f g = absurd (false≢true g)
+raises : (risen : Bool) (n : ℕ) → (not risen || ltb 0 n) ≡ true → risen ≡ true → 0 < n
+raises true n e f = ltb-true 0 n e
+raises false n e f = absurd (false≢true f)
 
 is-high : (n : ℕ) (t after : Bool) → eqb n 0 ≡ t → (t || after) ≡ true → 0 < n → after ≡ true
 is-high n true after z e h = absurd (omega (arith, eqb-true n 0 z))
@@ -92,7 +91,9 @@ is-high n false after z e h = e
 -- ---- A call that passes its tests agrees; a run of which each call does meets no row
 agreesTest : Chip → Done → chip.Out → Bool
 agreesTest before d c =
-    fits (d .reply) (c .reply) && (same (d .sent) (c .sent) && (same (written (chipOf (d .port))) (written (c .chip)) && signals (pin before) (pin (c .chip)) (d .raises)))
+    fits (d .reply) (c .reply)
+    && (same (d .sent) (c .sent)
+    && (same (written (chipOf (d .port))) (written (c .chip)) && signals (rises before c) (pin (c .chip)) (d .raises)))
 
 test-is : (before : Chip) (d : Done) (c : chip.Out) → agreesTest before d c ≡ true → Agrees before d c
 unfolding agreesTest signals
@@ -100,15 +101,17 @@ test-is before d c e =
     let reply = both-true (fits (d .reply) (c .reply)) _ e in
     let sent = both-true (same (d .sent) (c .sent)) _ (reply .1) in
     let next = both-true (same (written (chipOf (d .port))) (written (c .chip))) _ (sent .1) in
-    let signal = both-true (pin before || not (pin (c .chip)) || ltb 0 (d .raises)) _ (next .1) in
+    let signal = both-true (not (rises before c) || ltb 0 (d .raises)) _ (next .1) in
+    let after : chipOf (d .port) ≡ c .chip = same-chip _ _ (next .0) in
     record {
       alike = record {
         reply = fits-is _ _ (reply .0);
         sent = same-is _ _ (sent .0);
-        rise = rises _ _ _ (signal .0);
+        rise = raises _ _ (signal .0);
         high = is-high (d .raises) _ _ refl (signal .1);
+        level = sym (pin-is (d .port)) ∙ ap pin after;
       };
-      next = same-chip _ _ (next .0);
+      next = after;
     }
 
 runTest : Port → List Op → Bool
@@ -120,7 +123,7 @@ unfolding runTest
 free p k [] e = tt
 free p k (o ∷ os) e =
     let b = both-true (agreesTest (chipOf p) (deviceDoes p o) (chipDoes (chipOf p) o)) (runTest (deviceDoes p o .port) os) e in
-    (λ row. real p k o row (test-is _ _ _ (b .0)), free (deviceDoes p o .port) (keeps p k o) os (b .1))
+    (λ row. real p o row (test-is _ _ _ (b .0)), free (deviceDoes p o .port) (keeps p k o) os (b .1))
 
 -- A run from the fresh device that passes the test meets no row.
 unfoldable pub testing : List Op → Bool

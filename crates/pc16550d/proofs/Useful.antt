@@ -3,7 +3,8 @@ use mathlib.Core.Path.{refl}
 use Rattle.sidebyside.specs.Runs.{RowFree}
 use Rattle.pc16550d.specs.Compare.{pair}
 use Rattle.pc16550d.specs.Runs.{begins}
-use Rattle.pc16550d.specs.Drivers.{linuxReceives, linuxPrints, linuxPrintsTypedAt, linuxPrintsSending, seabiosDetects, loaderPolls}
+use Rattle.pc16550d.specs.Drivers.{linuxReceives, linuxLeavesBytes, linuxPrints, linuxPrintsTypedAt, linuxPrintsSending, looksTwice}
+use Rattle.pc16550d.specs.Drivers.{bothKinds, disablesAndEnables, seabiosDetects, loaderPolls, loopTest}
 use Rattle.pc16550d.proofs.Computing.{computing}
 use Rattle.pc16550d.proofs.RunTest.{testing, passes}
 
@@ -11,6 +12,11 @@ use Rattle.pc16550d.proofs.RunTest.{testing, passes}
 pub linux-receives : RowFree pair begins linuxReceives
 unfolding computing testing
 linux-receives = passes linuxReceives refl
+
+-- Nor does it meet one where its handler leaves bytes.
+pub linux-leaves-bytes : RowFree pair begins linuxLeavesBytes
+unfolding computing testing
+linux-leaves-bytes = passes linuxLeavesBytes refl
 
 -- Linux's console prints without meeting a row.
 pub linux-prints : RowFree pair begins linuxPrints
@@ -26,6 +32,19 @@ pub linux-prints-sending : RowFree pair begins linuxPrintsSending
 unfolding computing testing
 linux-prints-sending = passes linuxPrintsSending refl
 
+-- IIR read twice, two kinds at once, a kind disabled and enabled again: no row is met.
+pub looks-twice : RowFree pair begins looksTwice
+unfolding computing testing
+looks-twice = passes looksTwice refl
+
+pub both-kinds : RowFree pair begins bothKinds
+unfolding computing testing
+both-kinds = passes bothKinds refl
+
+pub disables-and-enables : RowFree pair begins disablesAndEnables
+unfolding computing testing
+disables-and-enables = passes disablesAndEnables refl
+
 -- SeaBIOS finds the port without meeting a row.
 pub seabios-detects : RowFree pair begins seabiosDetects
 unfolding computing testing
@@ -35,3 +54,8 @@ seabios-detects = passes seabiosDetects refl
 pub loader-polls : RowFree pair begins loaderPolls
 unfolding computing testing
 loader-polls = passes loaderPolls refl
+
+-- A test in the loop meets no row.
+pub loop-test : RowFree pair begins loopTest
+unfolding computing testing
+loop-test = passes loopTest refl

@@ -1,10 +1,10 @@
--- The PC16550D as its data sheet has it: its registers, its interrupt pin, and what each access does. Nothing here is taken from the device.
+-- The PC16550D as its data sheet has it: its registers, its interrupt pin, what each access does. Nothing here is taken from the device.
 --
 -- Left out:
--- * Time. What is written to THR has left at once, so LSR 0x20 and 0x40 are 1 and the transmit FIFO is empty (FCR 0x04 has nothing to do).
---   Between two operations four character times pass, after which the receiver's time-out has come.
--- * The form of a character: word length, stop bits, parity and break (LCR 0x7f), their errors (LSR 0x04, 0x08, 0x10, 0x80), the line's speed.
--- * All pins but the interrupt's. The modem's four input pins stand still; its outputs and DMA (FCR 0x08) reach nobody, nor does OUT2 gate anything.
+-- * Time. What is written to THR has left when the write ends, so LSR 0x20 and 0x40 are 1 and the transmit FIFO is empty (FCR 0x04 has
+--   nothing to do). Between two operations four character times pass, after which the receiver's time-out has come.
+-- * The form of a character: word length, stop bits, parity, break (LCR 0x7f), their errors (LSR 0x04, 0x08, 0x10, 0x80), the speed.
+-- * All pins but the interrupt's. The modem's four input pins stand still; its outputs and DMA (FCR 0x08) reach nobody; OUT2 gates nothing.
 use Prim.Native.Nat.{ℕ, _+_, _*_, _/_, _%_}
 use mathlib.Core.List.{List, [], _∷_, _++_, tail}
 use mathlib.Core.Bool.{Bool, true, false, cond, not, _&&_, _||_}
@@ -34,12 +34,12 @@ pub record Line : Type 0 where
   pub dll : ℕ
   pub dlm : ℕ
 
--- IER; and whether the interrupt of the empty transmitter is pending: never while IER 0x02 is 0, since setting that bit signals in any case.
+-- IER; is the interrupt of the empty transmitter pending: never while IER 0x02 is 0, since setting that bit signals in any case.
 pub record Interrupts : Type 0 where
   pub ier : ℕ
   pub thre : Bool
 
--- What FCR set: are the FIFOs on, and the trigger level. The bytes that wait, the first to be read first. Was a byte lost since LSR was read.
+-- What FCR set: are the FIFOs on, and the trigger level. The bytes that wait, the first to be read first. Was one lost since LSR was read.
 pub record Receiver : Type 0 where
   pub fifos : Bool
   pub trigger : ℕ
@@ -131,7 +131,10 @@ afterIir c = record { ier = c .interrupts .ier; thre = c .interrupts .thre && no
 unfoldable pub writeIer : Interrupts → ℕ → Interrupts
 writeIer i v = let ier = bitAnd v 0x0f in record { ier = ier; thre = on ier 0x02 && (not (on (i .ier) 0x02) || i .thre) }
 
--- A byte written to THR resets the transmitter's interrupt; it has left at once, and the empty transmitter signals again.
+-- A byte written to THR resets the transmitter's interrupt. Once it has left, the empty transmitter signals again.
+unfoldable pub loads : Interrupts → Interrupts
+loads i = record { ier = i .ier; thre = false }
+
 unfoldable pub transmits : Interrupts → Interrupts
 transmits i = record { ier = i .ier; thre = on (i .ier) 0x02 }
 
@@ -150,8 +153,8 @@ lsr r = 0x60 + cond (r .overrun) 0x02 0 + cond (some (r .waiting)) 0x01 0
 abbrev pub afterLsr : Receiver → Receiver
 afterLsr r = holding r (r .waiting) false
 
--- The FIFO holds 16 bytes; without it there is one. A byte that comes when it is full is an overrun: the FIFO keeps what it has and the byte
--- is lost; without it the byte takes the place of the one that waits.
+-- The FIFO holds 16 bytes; without it there is one. A byte that comes when it is full is an overrun: the FIFO keeps what it has and the
+-- byte is lost; without it the byte takes the place of the one that waits.
 abbrev pub depth : Receiver → ℕ
 depth r = cond (r .fifos) 16 1
 
@@ -207,22 +210,25 @@ writeMcr m v =
     let change = changed (inputs (m .mcr) (m .pins)) (inputs mcr (m .pins)) in
     record { mcr = mcr; pins = m .pins; changes = bitOr (m .changes) change }
 
--- ---- What an access does: the chip after it, what the manual says of the answer, the bytes sent
+-- ---- What an access does: the chip after it, and at the moments in between; what the manual says of the answer; the bytes sent
 
 pub record Out : Type 0 where
+  pub between : List Chip
   pub chip : Chip
   pub reply : Said
   pub sent : List ℕ
 
+-- All at once: there is no moment in between.
 abbrev pub replies : Chip → Said → Out
-replies c said = record { chip = c; reply = said; sent = [] }
+replies c said = record { between = []; chip = c; reply = said; sent = [] }
 
 abbrev pub becomes : Chip → Out
 becomes c = replies c none
 
 -- Silent: RBR where no byte waits.
 unfoldable pub readRegister : Chip → Register → Out
-readRegister c RBR-THR = replies (withReceiver c (afterRbr (c .receiver))) (cond (some (c .receiver .waiting)) (says (firstOr0 (c .receiver .waiting))) silent)
+readRegister c RBR-THR =
+    replies (withReceiver c (afterRbr (c .receiver))) (cond (some (c .receiver .waiting)) (says (firstOr0 (c .receiver .waiting))) silent)
 readRegister c IER = replies c (says (c .interrupts .ier))
 readRegister c IIR-FCR = replies (withInterrupts c (afterIir c)) (says (iir c))
 readRegister c LCR = replies c (says (c .line .lcr))
@@ -234,12 +240,20 @@ readRegister c DLL = replies c (says (c .line .dll))
 readRegister c DLM = replies c (says (c .line .dlm))
 readRegister c outside = replies c silent
 
+-- THR holds the byte for a moment. Then it has left, over the line or, in the loop, to the receiver.
+abbrev pub held : Chip → Chip
+held c = withInterrupts c (loads (c .interrupts))
+
+abbrev pub left : Chip → Chip
+left c = withInterrupts c (transmits (c .interrupts))
+
 unfoldable pub writeThr : Chip → ℕ → Out
-writeThr c v =
-    let c′ = withInterrupts c (transmits (c .interrupts)) in
-    cond (inLoop c)
-    (becomes (withReceiver c′ (arrives (c .receiver) v)))
-    (record { chip = c′; reply = none; sent = v ∷ [] })
+writeThr c v = record {
+  between = held c ∷ [];
+  chip = cond (inLoop c) (withReceiver (left (held c)) (arrives (c .receiver) v)) (left (held c));
+  reply = none;
+  sent = cond (inLoop c) [] (v ∷ []);
+}
 
 -- LSR and MSR are for reading alone.
 unfoldable pub writeRegister : Chip → Register → ℕ → Out
@@ -276,3 +290,11 @@ unfoldable pub chipDoes : Chip → Op → Out
 chipDoes c (read address) = readRegister c (registerAt (dlab c) address)
 chipDoes c (write address v) = writeRegister c (registerAt (dlab c) address) v
 chipDoes c (input bytes) = fromLine c bytes
+
+-- The pin rises during it: it is low at one moment and high at the next, from before the operation to after it.
+unfoldable pub rising : Chip → List Chip → Chip → Bool
+rising c [] c′ = not (pin c) && pin c′
+rising c (m ∷ ms) c′ = not (pin c) && pin m || rising m ms c′
+
+abbrev pub rises : Chip → Out → Bool
+rises c o = rising c (o .between) (o .chip)

@@ -1,4 +1,4 @@
--- The device beside the chip: what a port of the device is on the chip, when a call agrees, and the rows of docs/DIFFERENCES.md where it does not.
+-- The device beside the chip: what a port of the device is on the chip, when a call agrees, the rows of docs/DIFFERENCES.md where not.
 use Prim.Native.Nat.{ℕ, _+_, _/_, _%_, _≤_, _<_}
 use mathlib.Core.Path.{_≡_}
 use mathlib.Core.List.{List, []}
@@ -8,10 +8,10 @@ use Rattle.common.specs.Bits.{on}
 use Rattle.common.specs.Lists.{some}
 use Rattle.sidebyside.specs.Answers.{Answer, answers, refuses, Fits}
 use Rattle.sidebyside.specs.Runs.{Pair}
-use Rattle.interrupts.specs.Interrupts.{Kind, receivedData, transmitterEmpty, isEnabled, isMarked, isDue, ierStored}
-use Rattle.serial.specs.Port.{Port, Register, RBR-THR, IER, IIR-FCR, MCR, addressed, isOpen, inLoop, readOf, writeOf, inputOf}
+use Rattle.interrupts.specs.Interrupts.{Kind, receivedData, transmitterEmpty, isEnabled, ierStored}
+use Rattle.serial.specs.Port.{Port, Register, RBR-THR, IER, IIR-FCR, MCR, addressed, isOpen, inLoop, active, line, readOf, writeOf, inputOf}
 use Rattle.serial.specs.Port as device
-use Rattle.pc16550d.specs.Chip.{Chip, pin, Op, read, write, input, chipDoes}
+use Rattle.pc16550d.specs.Chip.{Chip, pin, Op, read, write, input, chipDoes, rises}
 use Rattle.pc16550d.specs.Chip as chip
 
 -- ---- One call of the device. The host's question for room is not among them: it changes nothing, and nothing on the chip is like it.
@@ -39,46 +39,36 @@ deviceDoes p (input bytes) = fed (inputOf p bytes)
 abbrev pub enables : Port → Kind → Bool
 enables p kind = isEnabled (p .settings .ier) kind
 
-abbrev pub marks : Port → Kind → Bool
-marks p kind = isMarked (p .iir) kind
-
--- The FIFOs are on, at trigger level 1; no byte was lost; nothing changed at the modem's inputs. The transmitter's mark is its pending interrupt.
--- The mark of received data means nothing: on the chip that interrupt is pending as long as a byte waits.
+-- The FIFOs are on, at trigger level 1; no byte was lost; nothing changed at the modem's inputs. The transmitter's interrupt is pending
+-- where it is active: on the chip it never is while IER 0x02 is 0.
 unfoldable pub chipOf : Port → Chip
 chipOf p = record {
   line = record { lcr = p .settings .lcr; dll = p .settings .dll; dlm = p .settings .dlm };
-  interrupts = record { ier = p .settings .ier; thre = enables p transmitterEmpty && marks p transmitterEmpty };
+  interrupts = record { ier = p .settings .ier; thre = active p transmitterEmpty };
   receiver = record { fifos = true; trigger = 1; waiting = p .waiting; overrun = false };
   modem = record { mcr = p .settings .mcr % 0x20; pins = p .msr / 0x10; changes = 0 };
   scr = p .settings .scr;
 }
 
--- ---- The ports that runs keep to
-
--- IIR is "none", one of the two kinds, or both.
-pub data Marks (iir : ℕ) : Type 0 where
-  noMark : iir ≡ 0x01 → Marks iir
-  transmitterMark : iir ≡ 0x02 → Marks iir
-  dataMark : iir ≡ 0x04 → Marks iir
-  bothMarks : iir ≡ 0x06 → Marks iir
+-- ---- The ports that runs keep to. Nothing is asked of IIR.
 
 pub record Sound (p : Port) : Type 0 where
-  pub iir : Marks (p .iir)
-  -- received data is marked only while a byte waits
-  pub held : marks p receivedData ≡ true → some (p .waiting) ≡ true
   pub lsr : p .lsr ≡ cond (some (p .waiting)) 0x61 0x60
   pub msr : p .msr % 0x10 ≡ 0
   pub size : 16 ≤ p .size
 
 -- ---- A call agrees
 
--- It looks alike from outside: the answer, the bytes sent, and the signal. Where the chip's pin rises the device raises, and where the device
--- raises the chip's pin is high.
+-- It looks alike from outside: the answer, the bytes sent, and the interrupt.
 pub record Alike (before : Chip) (d : Done) (c : chip.Out) : Type 0 where
   pub reply : Fits (d .reply) (c .reply)
   pub sent : d .sent ≡ c .sent
-  pub rise : pin before ≡ false → pin (c .chip) ≡ true → 0 < d .raises
+  -- where the chip's pin rises at some moment of the call, the device raises the interrupt
+  pub rise : rises before c ≡ true → 0 < d .raises
+  -- where the device raises it, the chip's pin is high after the call
   pub high : 0 < d .raises → pin (c .chip) ≡ true
+  -- after the call the device's interrupt line is the chip's pin: it rose, fell or stayed as that did
+  pub level : line (d .port) ≡ pin (c .chip)
 
 -- And the port after it is, on the chip, the chip after it.
 pub record Agrees (before : Chip) (d : Done) (c : chip.Out) : Type 0 where
@@ -102,30 +92,21 @@ accessOf p (write offset value) = writes (addressed (isOpen p) offset) value
 accessOf p (input bytes) = receives bytes
 
 pub data Row (p : Port) : Access → Type 0 where
-  -- IIR is read with both kinds marked: the device shows both at once, the manual the one of higher priority.
-  serial-two-kinds : p .iir ≡ 0x06 → Row p (reads IIR-FCR)
-  -- IIR is read while bytes wait and received data is enabled, and the device does not show it: a read of IIR or RBR unmarked it.
-  serial-forgotten-data : some (p .waiting) ≡ true → enables p receivedData ≡ true → marks p receivedData ≡ false → Row p (reads IIR-FCR)
-  -- IIR is read and shows received data, which was disabled after it was marked.
-  serial-stale-data : p .iir ≡ 0x04 → enables p receivedData ≡ false → Row p (reads IIR-FCR)
-  -- IIR is read and shows the empty transmitter, which was disabled after it was marked.
-  serial-stale-transmitter : p .iir ≡ 0x02 → enables p transmitterEmpty ≡ false → Row p (reads IIR-FCR)
   -- MCR is read and shows one of its three high bits, which on the chip are always 0.
   serial-wide-mcr : 0x20 ≤ p .settings .mcr → Row p (reads MCR)
-  -- THR is written in the loop while the transmitter's interrupt is enabled and not pending: on the chip it comes, on the device not.
-  serial-loop-transmitter : {v : ℕ} → inLoop p ≡ true → enables p transmitterEmpty ≡ true → marks p transmitterEmpty ≡ false
-      → Row p (writes RBR-THR v)
-  -- THR is written in the loop and 16 bytes wait: the chip loses the byte and says "overrun"; the device keeps it, or loses it and says nothing.
+  -- THR is written while the transmitter's interrupt is active, and received data is neither active nor made so by the loop: the chip's pin
+  -- falls and rises again, the device raises nothing.
+  serial-thr-burst : {v : ℕ} → active p transmitterEmpty ≡ true → active p receivedData ≡ false
+      → (inLoop p && enables p receivedData) ≡ false → Row p (writes RBR-THR v)
+  -- THR is written in the loop and 16 bytes wait: the chip loses the byte and says "overrun"; the device keeps it or loses it with no word.
   serial-loop-overrun : {v : ℕ} → inLoop p ≡ true → 16 ≤ length (p .waiting) → Row p (writes RBR-THR v)
-  -- Bytes come over the line, and more would wait than 16: the chip loses some and says "overrun"; the device takes as many as fit its own size.
-  serial-line-overrun : {bytes : List ℕ} → inLoop p ≡ false → some bytes ≡ true → 16 < length (p .waiting) + length bytes → Row p (receives bytes)
-  -- IER is written with 0x02 at 1, which it was already, and the transmitter's mark is gone: the device marks it and raises again, the chip does not.
+  -- Bytes come over the line, and more than 16 would wait: the chip loses some and says "overrun"; the device takes what fits its size.
+  serial-line-overrun : {bytes : List ℕ} → inLoop p ≡ false → some bytes ≡ true → 16 < length (p .waiting) + length bytes
+      → Row p (receives bytes)
+  -- IER is written with 0x02 at 1, which it was already, and the transmitter's interrupt is not active: the device signals it again, the
+  -- chip does not.
   serial-transmitter-again : {v : ℕ} → enables p transmitterEmpty ≡ true → isEnabled (ierStored v) transmitterEmpty ≡ true
-      → marks p transmitterEmpty ≡ false → Row p (writes IER v)
-  -- A write of IER lets a pending kind through, and the chip's pin rises; the device, which kept the mark while the kind was disabled, raises nothing.
-  serial-quiet-enable : {v : ℕ} → pin (chipOf p) ≡ false → pin (chip.writeRegister (chipOf p) chip.IER v .chip) ≡ true
-      → (some (p .waiting) && isDue (ierStored v) (p .iir) receivedData) ≡ false → isDue (ierStored v) (p .iir) transmitterEmpty ≡ false
-      → Row p (writes IER v)
+      → active p transmitterEmpty ≡ false → Row p (writes IER v)
   -- FCR is written with 0x01 off: the chip turns its FIFOs off.
   serial-fifo-off : {v : ℕ} → on v 0x01 ≡ false → Row p (writes IIR-FCR v)
   -- FCR is written with 0x02: the chip loses the bytes that wait.

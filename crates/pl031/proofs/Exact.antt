@@ -10,11 +10,13 @@ use lib.Dec.{eqb, leb}
 use lib.IntN.{pos}
 use borrow.Author.Tests.{eq-eqb, ne-eqb}
 use Rattle.sidebyside.specs.Answers.{silent, Fits}
-use Rattle.clock.specs.Registers.{Clock, Register, DR, MR, LR, CR, IMSC, RIS, MIS, ICR, ID, reserved, registerAt, refused, rule, withLr, readOf, writeOf}
+use Rattle.clock.specs.Registers.{Clock, Register, DR, MR, LR, CR, IMSC, RIS, MIS, ICR, ID, reserved, registerAt, refused, rule, withLr}
+use Rattle.clock.specs.Registers.{readOf, writeOf}
 use Rattle.clock.specs.Layout.{clockAfter}
 use Rattle.pl031.specs.Chip.{Chip, mis, ticks, Op, second, read, write, word, chipDoes}
 use Rattle.pl031.specs.Chip as chip
-use Rattle.pl031.specs.Compare.{Timed, now, later, Done, answerOf, deviceDoes, chipOf, Sound, Agrees, AgreesAt, Row, passes, writes, inRange, RowAt, clock-out-of-range, clock-match-no-effect, clock-load-match, clock-restarts}
+use Rattle.pl031.specs.Compare.{Timed, now, later, Done, answerOf, deviceDoes, chipOf, Sound, Agrees, AgreesAt, Row, passes, writes}
+use Rattle.pl031.specs.Compare.{inRange, RowAt, clock-out-of-range, clock-match-no-effect, clock-load-match, clock-restarts}
 use Rattle.pl031.proofs.Seconds.{shown-goes-on, shown-leaps, loaded, follows}
 
 -- ---- Offsets: both maps give one register, but between two registers of the identification
@@ -76,7 +78,8 @@ keeps t k (read offset) = k
 keeps t k (write offset v) = write-keeps t k (registerAt offset) (word v)
 
 -- ---- A call agrees if its answer and the chip after it do: no interrupt is pending in a sound state
-agrees : {before : Chip} (d : Done) {c : chip.Out} → Sound (d .timed) → Fits (d .reply) (c .reply) → chipOf (d .timed) ≡ c .chip → Agrees before d c
+agrees : {before : Chip} (d : Done) {c : chip.Out} → Sound (d .timed) → Fits (d .reply) (c .reply) → chipOf (d .timed) ≡ c .chip
+    → Agrees before d c
 unfolding chipOf
 agrees d k reply next = record {
   alike = record { reply = reply; rise = λ _. sym (ap mis next) ∙ rw (k .quiet) (and-zero-l (d .timed .clock .imsc)) };
@@ -84,7 +87,8 @@ agrees d k reply next = record {
 }
 
 -- ---- Reads
-read-fits : (t : Timed) {r : Register} {s : chip.Register} → Same r s → Fits (answerOf (rule r (t .clock) (now t) .read)) (chip.readRegister (chipOf t) s)
+read-fits : (t : Timed) {r : Register} {s : chip.Register} → Same r s
+    → Fits (answerOf (rule r (t .clock) (now t) .read)) (chip.readRegister (chipOf t) s)
 unfolding rule chip.readRegister chipOf
 read-fits t dr = refl
 read-fits t mr = refl
@@ -99,7 +103,8 @@ read-fits t between = tt
 read-fits t none-there = tt
 
 -- Where the device refuses a read the manual is silent.
-register-silent : (t : Timed) {r : Register} {s : chip.Register} → Same r s → rule r (t .clock) (now t) .read ≡ refused → chip.readRegister (chipOf t) s ≡ silent
+register-silent : (t : Timed) {r : Register} {s : chip.Register} → Same r s → rule r (t .clock) (now t) .read ≡ refused
+    → chip.readRegister (chipOf t) s ≡ silent
 unfolding rule chip.readRegister
 register-silent t dr e = cc
 register-silent t mr e = cc
@@ -113,7 +118,8 @@ register-silent t id e = cc
 register-silent t between e = refl
 register-silent t none-there e = refl
 
-pub refused-silent : (t : Timed) (offset : ℕ) → readOf (t .clock) (t .time) offset ≡ refused → chipDoes (chipOf t) (read offset) .reply ≡ silent
+pub refused-silent : (t : Timed) (offset : ℕ) → readOf (t .clock) (t .time) offset ≡ refused
+    → chipDoes (chipOf t) (read offset) .reply ≡ silent
 unfolding readOf chipDoes
 refused-silent t offset e = register-silent t (same-map offset) e
 
@@ -128,14 +134,16 @@ module _ (t : Timed) (k : Sound t) (v : ℕ) (h : v < 2 ^ 32) where
   load (yes e) = inr (clock-load-match e)
   load (no n) = inl (rw (ne-eqb v (t .clock .mr) n, loaded (now t) v h, k .quiet))
 
-  start : Dec (v ≡ 1) → Dec (t .clock .lr ≡ 0) → Dec (chipOf t .counter ≡ now t) → (chipOf (written t CR v) ≡ chip.writeCr (chipOf t) v) ⊎ Row t (writes CR v)
+  start : Dec (v ≡ 1) → Dec (t .clock .lr ≡ 0) → Dec (chipOf t .counter ≡ now t)
+      → (chipOf (written t CR v) ≡ chip.writeCr (chipOf t) v) ⊎ Row t (writes CR v)
   unfolding chipOf rule
   start (no n) x y = inl (rw (ne-eqb v 1 n))
   start (yes e) (no x) y = inr (clock-restarts e (λ l c. x l))
   start (yes e) (yes x) (no y) = inr (clock-restarts e (λ l c. y c))
   start (yes e) (yes x) (yes y) = inl (rw (eq-eqb v 1 e, x, y, follows (now t) (omega arith)))
 
-  write-next : {r : Register} {s : chip.Register} → Same r s → (chipOf (written t r v) ≡ chip.writeRegister (chipOf t) s v) ⊎ Row t (writes r v)
+  write-next : {r : Register} {s : chip.Register} → Same r s
+      → (chipOf (written t r v) ≡ chip.writeRegister (chipOf t) s v) ⊎ Row t (writes r v)
   unfolding chipOf rule chip.writeRegister
   write-next dr = inl refl
   write-next mr = inl refl
@@ -160,7 +168,8 @@ second-next t k true false a b (no n) = inr (clock-out-of-range (λ e. true≢fa
 second-next t k false true a b (no n) = inr (clock-out-of-range (λ e. false≢true (sym a ∙ e ∙ b)))
 
 -- ---- Complete: a call agrees or is in a row
-done : {before : Chip} {R : Type 0} (d : Done) {c : chip.Out} → Sound (d .timed) → Fits (d .reply) (c .reply) → (chipOf (d .timed) ≡ c .chip) ⊎ R → Agrees before d c ⊎ R
+done : {before : Chip} {R : Type 0} (d : Done) {c : chip.Out} → Sound (d .timed) → Fits (d .reply) (c .reply)
+    → (chipOf (d .timed) ≡ c .chip) ⊎ R → Agrees before d c ⊎ R
 done d k reply (inl next) = inl (agrees d k reply next)
 done d k reply (inr row) = inr row
 
@@ -179,7 +188,8 @@ unfolding chipOf ticks
 second-real t k (clock-match-no-effect e) next = status-set t k (rw (eq-eqb _ _ e)) (ap (λ (c : Chip). c .ris) next)
 second-real t k (clock-out-of-range n) next = shown-leaps (t .time) (t .clock .ahead) n (ap (λ (c : Chip). c .counter) next)
 
-write-real : (t : Timed) → Sound t → (v : ℕ) {r : Register} {s : chip.Register} → Same r s → Row t (writes r v) → chipOf (written t r v) ≡ chip.writeRegister (chipOf t) s v → ⊥
+write-real : (t : Timed) → Sound t → (v : ℕ) {r : Register} {s : chip.Register} → Same r s → Row t (writes r v)
+    → chipOf (written t r v) ≡ chip.writeRegister (chipOf t) s v → ⊥
 unfolding chipOf rule chip.writeRegister
 write-real t k v lr (clock-load-match e) next = status-set t k (rw (eq-eqb _ _ e)) (ap (λ (c : Chip). c .ris) next)
 write-real t k v cr (clock-restarts e n) next =

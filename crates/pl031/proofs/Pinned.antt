@@ -1,4 +1,5 @@
--- The chip by itself, from reset: runs with the answers that the manual's rules give. Inside a row nothing else holds the definition to the manual.
+-- The chip by itself, from reset: runs with the answers that the manual's rules give. Inside a row nothing else holds the definition to the
+-- manual.
 use mathlib.Core.Path.{refl}
 use mathlib.Core.List.{List, [], _∷_}
 use Prim.Native.Nat.{ℕ}
@@ -55,7 +56,8 @@ pub match-held : Told pair afterReset
 unfolding computing
 match-held = refl
 
--- Loading the match value sets it; the mask lets it through, and has one bit; ICR clears it by its bit 0 alone; DR, RIS and MIS cannot be written.
+-- Loading the match value sets it; the mask lets it through, and has one bit; ICR clears it by its bit 0 alone; DR, RIS and MIS cannot be
+-- written.
 pub masked : Told pair afterReset
     (w 0x004 5 ∷ w 0x008 5 ∷ r 0x014 1 ∷ r 0x018 0 ∷ w 0x010 0xff ∷ r 0x010 1 ∷ r 0x018 1 ∷ w 0x01c 2 ∷ r 0x018 1 ∷ w 0x014 0 ∷ w 0x018 0 ∷ r 0x018 1
     ∷ w 0x010 2 ∷ r 0x018 0 ∷ r 0x014 1 ∷ w 0x01c 3 ∷ r 0x014 0 ∷ w 0x000 6 ∷ r 0x000 5 ∷ [])

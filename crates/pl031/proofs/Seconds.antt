@@ -71,11 +71,13 @@ goes-on x (over f v a) (over g w c) e = rw (v, w) (host-goes-on x)
 
 -- ---- Elsewhere it does not: from the sum to the host's time, and back
 
-no-under : {n m : ℕ} (up down : ℕ) → Next n m → down ≤ n + up → n + up < down + 2 ^ 32 → m + up < down → m ≡ (n + up - down + 1) % 2 ^ 32 → ⊥
+no-under : {n m : ℕ} (up down : ℕ) → Next n m → down ≤ n + up → n + up < down + 2 ^ 32 → m + up < down → m ≡ (n + up - down + 1) % 2 ^ 32
+    → ⊥
 no-under up down (steps e h) a b c r = omega arith
 no-under up down (wraps e f) a b c r = omega arith
 
-no-over : {n m : ℕ} (up down : ℕ) → Next n m → down ≤ n + up → n + up < down + 2 ^ 32 → down + 2 ^ 32 ≤ m + up → m ≡ (n + up - down + 1) % 2 ^ 32 → ⊥
+no-over : {n m : ℕ} (up down : ℕ) → Next n m → down ≤ n + up → n + up < down + 2 ^ 32 → down + 2 ^ 32 ≤ m + up
+    → m ≡ (n + up - down + 1) % 2 ^ 32 → ⊥
 no-over up down (steps e h) a b c r = omega arith
 no-over up down (wraps e f) a b c r = omega arith
 

@@ -5,7 +5,8 @@ use native.Mathlib.Omega.{arith}
 use Rattle.sidebyside.specs.Runs.{RowFree}
 use Rattle.clock.specs.Registers.{Register, LR, MR, ICR, IMSC}
 use Rattle.pl031.specs.Chip.{ticks}
-use Rattle.pl031.specs.Compare.{Timed, later, chipOf, Row, passes, reads, writes, inRange, pair, clock-out-of-range, clock-match-no-effect, clock-load-match}
+use Rattle.pl031.specs.Compare.{Timed, later, chipOf, Row, passes, reads, writes, inRange, pair, clock-out-of-range}
+use Rattle.pl031.specs.Compare.{clock-match-no-effect, clock-load-match}
 use Rattle.pl031.specs.Runs.{begins, setAndRead, alarmSet}
 use Rattle.pl031.proofs.Computing.{computing}
 

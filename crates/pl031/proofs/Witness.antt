@@ -1,4 +1,5 @@
--- Each row from a clock that is fresh at 1,000: the operations before it, the call that is in it, the read behind it that shows it, and both answers.
+-- Each row from a clock that is fresh at 1,000: the operations before it, the call that is in it, the read behind it that shows it, and
+-- both answers.
 use mathlib.Core.Path.{_≡_, refl}
 use mathlib.Core.Bool.{true≢false}
 use mathlib.Core.List.{[], _∷_}

@@ -1,8 +1,8 @@
--- The PL031 real time clock as its manual (Arm DDI 0224) has it: its registers, what each access does, and what a second does. Nothing here is
--- taken from the device.
+-- The PL031 real time clock as its manual (Arm DDI 0224) has it: its registers, what each access does, and what a second does. Nothing here
+-- is taken from the device.
 --
--- Left out: time between seconds, and the time of an access to take effect; the test registers; the reset and the interrupt as wires, but that MIS
--- is the interrupt's level.
+-- Left out: time between seconds, and the time of an access to take effect; the test registers; the reset and the interrupt as wires, but
+-- that MIS is the interrupt's level.
 use Prim.Native.Nat.{ℕ, _+_, _-_, _*_, _/_, _%_, _^_}
 use mathlib.Core.Bool.{Bool, false, cond, _&&_, _||_}
 use mathlib.Core.List.{List, [], _∷_}

@@ -1,5 +1,5 @@
--- The device's clock beside the chip's: what a state of the device is on the chip, when a call agrees, and the rows of docs/DIFFERENCES.md where it
--- does not.
+-- The device's clock beside the chip's: what a state of the device is on the chip, when a call agrees, and the rows of docs/DIFFERENCES.md
+-- where it does not.
 use Prim.Native.Nat.{ℕ, _+_, _%_, _^_}
 use mathlib.Core.Path.{_≡_}
 use mathlib.Core.Bool.{Bool, true}
@@ -90,15 +90,15 @@ abbrev pub inRange : Timed → Bool
 inRange t = fits32 (sum (now t) (t .clock .ahead))
 
 pub data Row (t : Timed) : Access → Type 0 where
-  -- A second passes, and the sum of the host's time and what the clock is ahead of it stops to fit 32 bits, or begins to: the device goes over to the
-  -- host's time, or comes back from it; the chip's counter goes on by one.
+  -- A second passes, and the sum of the host's time and what the clock is ahead of it stops to fit 32 bits, or begins to: the device goes
+  -- over to the host's time, or comes back from it; the chip's counter goes on by one.
   clock-out-of-range : (inRange t ≡ inRange (later t) → ⊥) → Row t passes
   -- A second passes, and the counter comes to the match value: the chip sets the raw status, the device does nothing.
   clock-match-no-effect : ticks (chipOf t) .counter ≡ t .clock .mr → Row t passes
   -- LR is written with the match value: the counter comes to it, too.
   clock-load-match : {v : ℕ} → v ≡ t .clock .mr → Row t (writes LR v)
-  -- 1 is written to CR and the clock does not show the host's time, or LR is not 0: the chip runs on, the device goes back to the host's time and LR
-  -- becomes 0.
+  -- 1 is written to CR and the clock does not show the host's time, or LR is not 0: the chip runs on, the device goes back to the host's
+  -- time and LR becomes 0.
   clock-restarts : {v : ℕ} → v ≡ 1 → (t .clock .lr ≡ 0 → chipOf t .counter ≡ now t → ⊥) → Row t (writes CR v)
 
 abbrev pub RowAt : Timed → Op → Type 0

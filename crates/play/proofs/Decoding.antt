@@ -52,7 +52,8 @@ decode-length (kind ∷ a ∷ b ∷ rest) inputs os e =
     go (leb kind 3 && leb n (length inputs)) (decode rest (drop n inputs)) (decode-length rest (drop n inputs)) e
   where
     go : (t : Bool) (d : Decoded) → ((l : List Op) → d ≡ asks l → length rest ≡ 3 * length l)
-        → cond t (before (opOf kind a b (take (inputBytes kind a b) inputs)) d) malformed ≡ asks os → suc (suc (suc (length rest))) ≡ 3 * length os
+        → cond t (before (opOf kind a b (take (inputBytes kind a b) inputs)) d) malformed ≡ asks os
+        → suc (suc (suc (length rest))) ≡ 3 * length os
     go true malformed h e = let z : _≡_ {A = ℕ} 0 1 = cc in omega arith
     go true (asks l) h e =
         let z : os ≡ opOf kind a b (take (inputBytes kind a b) inputs) ∷ l = cc in
@@ -120,12 +121,14 @@ module _ (ops inputs : List ℕ) (at from : ℕ) (s : Scanned ops inputs at from
   pub scanned-short : at < length ops → length inputs - from < takesAt ops at → false ≡ isRun (decode ops inputs)
   scanned-short m h = sym (s .same ∙ ap isRun (short-at ops inputs at from (whole m) h))
 
-  pub scanned-more : at < length ops → getD ops at 0 ≤ 3 → takesAt ops at ≤ length inputs - from → Scanned ops inputs (at + 3) (from + takesAt ops at)
+  pub scanned-more : at < length ops → getD ops at 0 ≤ 3 → takesAt ops at ≤ length inputs - from
+      → Scanned ops inputs (at + 3) (from + takesAt ops at)
   scanned-more m h k = record {
     thirds = let t = s .thirds in omega arith;
     within = whole m;
     inside = let i = s .inside in omega arith;
-    same = s .same ∙ ap isRun (next-at ops inputs at from (whole m) h k) ∙ before-is-run (opAt ops inputs at from) (decode (drop (at + 3) ops) (drop (from + takesAt ops at) inputs));
+    same = s .same ∙ ap isRun (next-at ops inputs at from (whole m) h k)
+        ∙ before-is-run (opAt ops inputs at from) (decode (drop (at + 3) ops) (drop (from + takesAt ops at) inputs));
   }
 
   pub scanned-all : length ops ≤ at → eqb from (length inputs) ≡ isRun (decode ops inputs)

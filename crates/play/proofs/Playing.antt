@@ -30,7 +30,8 @@ unfolding portAfter run
 port-on p o malformed h = absurd (false≢true h)
 port-on p o (asks os) h = refl
 
-words-on : (p : Port) (o : Op) (d : Decoded) → isRun d ≡ true → wordsAfter p (before o d) ≡ word (step p o .answer) ∷ wordsAfter (step p o .port) d
+words-on : (p : Port) (o : Op) (d : Decoded) → isRun d ≡ true
+    → wordsAfter p (before o d) ≡ word (step p o .answer) ∷ wordsAfter (step p o .port) d
 unfolding wordsAfter run
 words-on p o malformed h = absurd (false≢true h)
 words-on p o (asks os) h = refl
@@ -82,7 +83,8 @@ module _ (p : Port) (ops inputs answers : List ℕ) (p′ : Port) (answers′ : 
       next-at ops inputs (3 * i) from whole next-kind next-bytes
       ∙ ap (λ (k : ℕ). before (opAt ops inputs (3 * i) from) (decode (drop k ops) (drop (from + takesAt ops (3 * i)) inputs))) e
 
-  playing-more : (q : Port) (w : ℕ) → i < length answers → q ≡ step p′ (opAt ops inputs (3 * i) from) .port → w ≡ word (step p′ (opAt ops inputs (3 * i) from) .answer)
+  playing-more : (q : Port) (w : ℕ) → i < length answers → q ≡ step p′ (opAt ops inputs (3 * i) from) .port
+      → w ≡ word (step p′ (opAt ops inputs (3 * i) from) .answer)
       → Playing p ops inputs answers q (set answers′ i w) (i + 1) (from + takesAt ops (3 * i))
   playing-more q w h e f =
       let o = opAt ops inputs (3 * i) from in
@@ -95,7 +97,8 @@ module _ (p : Port) (ops inputs answers : List ℕ) (p′ : Port) (answers′ : 
         long = length-set answers′ i w ∙ s .long;
         good = g;
         port = s .port ∙ ap (portAfter p′) onwards ∙ port-on p′ o d g ∙ ap (λ (r : Port). portAfter r d) (sym e);
-        done = s .done ∙ ap (λ (x : Decoded). take i answers′ ++ wordsAfter p′ x) onwards ∙ ap (λ (ws : List ℕ). take i answers′ ++ ws) (words-on p′ o d g)
+        done = s .done ∙ ap (λ (x : Decoded). take i answers′ ++ wordsAfter p′ x) onwards
+            ∙ ap (λ (ws : List ℕ). take i answers′ ++ ws) (words-on p′ o d g)
             ∙ rw (← e, ← f) (word-more answers′ i w (wordsAfter q d) l);
         rest = rest-more answers′ answers i w (s .rest);
       }
@@ -111,7 +114,8 @@ module _ (p : Port) (ops inputs answers : List ℕ) (p′ : Port) (answers′ : 
       rw e (playing-more q w h (d′ .port) (d′ .answer))
 
 -- all operations have been played
-pub playing-all : (p : Port) (ops inputs answers : List ℕ) (p′ : Port) (answers′ : List ℕ) (i from : ℕ) → Playing p ops inputs answers p′ answers′ i from
+pub playing-all : (p : Port) (ops inputs answers : List ℕ) (p′ : Port) (answers′ : List ℕ) (i from : ℕ)
+    → Playing p ops inputs answers p′ answers′ i from
     → length ops < 3 * i + 3 → (os : List Op) → decode ops inputs ≡ asks os → Played p os answers p′ answers′ true
 unfolding portAfter wordsAfter decode run
 playing-all p ops inputs answers p′ answers′ i from s h os e =
@@ -161,7 +165,8 @@ module _ (regs pos ring ops inputs answers : List ℕ) where
   }
 
   pub plays-all : isRun (decode ops inputs) ≡ true → length ops / 3 ≤ length answers → (regs′ pos′ ring′ answers′ : List ℕ) (i from : ℕ)
-      → Playing (portOf regs pos ring) ops inputs answers (portOf regs′ pos′ ring′) answers′ i from → length ops / 3 ≤ i → SparesKept regs pos regs′ pos′
+      → Playing (portOf regs pos ring) ops inputs answers (portOf regs′ pos′ ring′) answers′ i from → length ops / 3 ≤ i
+      → SparesKept regs pos regs′ pos′
       → Plays regs pos ring ops inputs answers regs′ pos′ ring′ answers′ true
   plays-all g fits regs′ pos′ ring′ answers′ i from s h kept = record {
     plays = λ os e l. playing-all (portOf regs pos ring) ops inputs answers (portOf regs′ pos′ ring′) answers′ i from s (omega arith) os e;

@@ -101,7 +101,8 @@ pub record Refused (regs pos ring answers regs′ pos′ ring′ answers′ : Li
 pub record Plays (regs pos ring ops inputs answers regs′ pos′ ring′ answers′ : List ℕ) (r : Bool) : Type 0 where
   pub plays : (os : List Op) → decode ops inputs ≡ asks os → length os ≤ length answers
       → Played (portOf regs pos ring) os answers (portOf regs′ pos′ ring′) answers′ r
-  pub too-many : (os : List Op) → decode ops inputs ≡ asks os → length answers < length os → Refused regs pos ring answers regs′ pos′ ring′ answers′ r
+  pub too-many : (os : List Op) → decode ops inputs ≡ asks os → length answers < length os
+      → Refused regs pos ring answers regs′ pos′ ring′ answers′ r
   pub no-run : decode ops inputs ≡ malformed → Refused regs pos ring answers regs′ pos′ ring′ answers′ r
   pub sparesKept : SparesKept regs pos regs′ pos′
 

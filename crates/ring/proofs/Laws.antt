@@ -125,5 +125,6 @@ module _ (c : ℕ) (ring₀ : List ℕ) (start n : ℕ) (input : List ℕ) (k fr
         put = rw (there, next, add-one i, take-suc input i 0) (put-more c (getD input i 0) (s .put) (omega arith) (s .whole));
       }
 
-  pub all-there : (ring : List ℕ) (i : ℕ) → k ≤ i → SoFar c ring₀ start n input k from ring i → Put c ring₀ start n (take k input) ring (n + k)
+  pub all-there : (ring : List ℕ) (i : ℕ) → k ≤ i → SoFar c ring₀ start n input k from ring i
+      → Put c ring₀ start n (take k input) ring (n + k)
   all-there ring i h s = let e : k ≡ i = omega (arith, s .far) in rw e (s .put)

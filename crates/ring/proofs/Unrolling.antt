@@ -37,5 +37,6 @@ module _ (places : ℕ) (ring : List ℕ) (start n : ℕ) (memory₀ : List ℕ)
         };
       }
 
-  pub all-there : (memory : List ℕ) (i : ℕ) → n ≤ i → SoFar places ring start n memory₀ memory i → Unrolled places ring start n memory₀ memory
+  pub all-there : (memory : List ℕ) (i : ℕ) → n ≤ i → SoFar places ring start n memory₀ memory i
+      → Unrolled places ring start n memory₀ memory
   all-there memory i h s = let e : n ≡ i = omega (arith, s .far) in rw e (s .there)

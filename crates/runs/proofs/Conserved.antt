@@ -10,9 +10,10 @@ use Rattle.common.specs.Bits.{on}
 use Rattle.modem.specs.Modem.{isLoop}
 use Rattle.serial.specs.Port.{Register, Settings, Port, addressed, isOpen, inLoop, fresh, Out, Input, readRegister, inputOf, receives}
 use Rattle.runs.specs.Run.{Op, read, write, input, room, hasRoom, step, run}
-use Rattle.runs.specs.Book.{Book, accepted, delivered, dlabAfter, loopAfter, next, bookAfter, allAccepted, allDelivered, bookOf, freshBook}
+use Rattle.runs.specs.Book.{Book, accepted, delivered, dlabAfter, loopAfter, next, bookAfter, allAccepted, allDelivered, bookOf}
+use Rattle.runs.specs.Book.{freshBook}
 use Rattle.runs.proofs.Registers.{write-puts, put-lcr, put-mcr}
-use Rattle.runs.proofs.Effects.{Effect, keeps, comes, reads, identifies, read-cases, input-cases, effect}
+use Rattle.runs.proofs.Effects.{Effect, keeps, comes, reads, read-cases, input-cases, effect}
 
 -- ---- One operation
 
@@ -21,18 +22,16 @@ first-tail [] = refl
 first-tail (x ∷ q) = ap (λ (l : List ℕ). x ∷ l) (append-nil q)
 
 -- what waited and what is accepted is what is delivered and what waits then
-pub moves : {p q : Port} {a d : List ℕ} {t : Bool} {n : ℕ} → Effect p q a t d n → p .waiting ++ a ≡ d ++ q .waiting
+pub moves : {p q : Port} {a d : List ℕ} {t : Bool} → Effect p q a t d → p .waiting ++ a ≡ d ++ q .waiting
 moves (keeps s m) = append-nil _
-moves (comes bytes s h) = refl
+moves (comes bytes i s h) = refl
 moves {p} reads = first-tail (p .waiting)
-moves identifies = append-nil _
 
 -- the size stays
-pub same-size : {p q : Port} {a d : List ℕ} {t : Bool} {n : ℕ} → Effect p q a t d n → q .size ≡ p .size
+pub same-size : {p q : Port} {a d : List ℕ} {t : Bool} → Effect p q a t d → q .size ≡ p .size
 same-size (keeps s m) = refl
-same-size (comes bytes s h) = refl
+same-size (comes bytes i s h) = refl
 same-size reads = refl
-same-size identifies = refl
 
 -- ---- The book that the host keeps is the port's
 
@@ -68,7 +67,7 @@ loop-right p (write offset v) =
 loop-right p (input bytes) = ap (λ (s : Settings). isLoop (s .mcr)) (input-keeps-settings p bytes)
 loop-right p room = refl
 
-waits-right : {p q : Port} {a d : List ℕ} {t : Bool} {n : ℕ} → Effect p q a t d n → length (q .waiting) ≡ length (p .waiting) + length a - length d
+waits-right : {p q : Port} {a d : List ℕ} {t : Bool} → Effect p q a t d → length (q .waiting) ≡ length (p .waiting) + length a - length d
 waits-right {p} {q} {a} {d} e = let h = simp length-append at (ap length (moves e)) in omega arith
 
 book-path : {d d′ l l′ : Bool} {w w′ s s′ : ℕ} → d ≡ d′ → l ≡ l′ → w ≡ w′ → s ≡ s′
@@ -87,7 +86,8 @@ unfolding run
 booked p [] = refl
 booked p (o ∷ os) = rw (book-right p o) (booked (step p o .port) os)
 
--- Nothing lost, nothing made up, order kept: from any port, what waited and then all that was accepted is all that was delivered and then what waits.
+-- Nothing lost, nothing made up, order kept: from any port, what waited and then all that was accepted is all that was delivered and then
+-- what waits.
 pub conserved : (p : Port) (os : List Op) → let b = bookOf p in let r = run p os in
     p .waiting ++ allAccepted b os (r .answers) ≡ allDelivered b os (r .answers) ++ r .port .waiting
 unfolding run
@@ -110,7 +110,8 @@ unfolding bookOf isLoop
 fresh-conserved size os = conserved (fresh size) os
 
 -- and the count that the host keeps is the number of bytes that wait, so that asking for room answers what the book says
-pub fresh-count : (size : ℕ) (os : List Op) → let r = run (fresh size) os in bookAfter (freshBook size) os (r .answers) .waits ≡ length (r .port .waiting)
+pub fresh-count : (size : ℕ) (os : List Op)
+    → let r = run (fresh size) os in bookAfter (freshBook size) os (r .answers) .waits ≡ length (r .port .waiting)
 unfolding bookOf isLoop
 fresh-count size os = ap (λ (b : Book). b .waits) (booked (fresh size) os)
 
@@ -124,11 +125,10 @@ pub tail-short : (q : List ℕ) → length (tail q) ≤ length q
 tail-short [] = omega arith
 tail-short (x ∷ q) = omega arith
 
-bounded-step : {p q : Port} {a d : List ℕ} {t : Bool} {n : ℕ} → Effect p q a t d n → length (q .waiting) ≤ max (length (p .waiting)) (p .size)
+bounded-step : {p q : Port} {a d : List ℕ} {t : Bool} → Effect p q a t d → length (q .waiting) ≤ max (length (p .waiting)) (p .size)
 bounded-step (keeps s m) = omega arith
-bounded-step {p} (comes bytes s h) = omega (arith, length-append (p .waiting) bytes)
+bounded-step {p} (comes bytes i s h) = omega (arith, length-append (p .waiting) bytes)
 bounded-step {p} reads = omega (arith, tail-short (p .waiting))
-bounded-step identifies = omega arith
 
 -- From any port: never more wait than waited at the start or than the port has room for.
 pub bounded : (p : Port) (os : List Op) → length (run p os .port .waiting) ≤ max (length (p .waiting)) (p .size)

@@ -1,53 +1,34 @@
--- What an operation can do to a port is one of four things. Each theorem over runs goes by these cases and by induction.
+-- What an operation can do to a port is one of three things. Each theorem over runs goes by these cases and by induction.
 use mathlib.Core.Path.{_≡_, refl, subst}
 use mathlib.Core.Bool.{Bool, true, false, cond, _&&_}
 use mathlib.Core.List.{List, [], _∷_, _++_}
 use Prim.Native.Nat.{ℕ, zero, suc, _+_, _≤_, min}
-use native.Mathlib.Nat.{zero-add}
 use native.Mathlib.Omega.{arith}
 use lib.ListN.{length, take, length-take}
 use lib.Dec.{eqb, ltb}
 use borrow.Author.Tests.{eqb-false, ltb-true, lt-ltb}
 use Rattle.common.specs.Lists.{some, firstOr0}
-use Rattle.interrupts.specs.Interrupts.{receivedData, ierStored, Announced, announce}
 use Rattle.line_status.specs.LineStatus.{lsrReady}
-use Rattle.serial.specs.Port.{Register, RBR-THR, IER, IIR-FCR, LCR, MCR, LSR, MSR, SCR, DLL, DLM, reserved, addressed, Settings, Port, isOpen, inLoop, withReceiver, Out, replies, becomes, readRbr, readIir, readRegister, readOf, receives, hasRoom, putIer, writeIer, writeLine, writeRegister, writeOf, Input, roomOf, takesNone, takesSome, inputOf}
+use Rattle.serial.specs.Port.{Register, RBR-THR, IER, IIR-FCR, LCR, MCR, LSR, MSR, SCR, DLL, DLM, reserved, addressed, Settings, Port}
+use Rattle.serial.specs.Port.{isOpen, inLoop, withSettings, withReceiver, Out, replies, becomes, readRbr, readIir, readRegister, readOf}
+use Rattle.serial.specs.Port.{receives, hasRoom, transmits, emptied, writeIer, writeLine, writeLoop, writeRegister, writeOf, Input, roomOf}
+use Rattle.serial.specs.Port.{takesNone, takesSome, inputOf}
 use Rattle.runs.proofs.Registers.{isRbr, rbr-is-data}
-use Rattle.runs.specs.Run.{Op, read, write, input, room, sent, full, raisesOf, didInput, step, run}
+use Rattle.runs.specs.Run.{Op, read, write, input, room, didInput, step, run}
 use Rattle.runs.specs.Book.{accepted, readsData, delivered, taken, bookOf}
-use Rattle.serial.specs.Sources.{Source, receiver, transmitter, kindOf}
 
--- ---- Announcements one after the other, under one IER: the marks after them, and how often the interrupt is raised
+-- ---- The three: the port after it, the bytes accepted, whether the data register is read, the bytes delivered. What is stored in IIR, and raised, is
+-- another matter: `Raising`.
 
--- what a source announces: that a byte waits, that the transmitter is empty, which it always is
-abbrev pub Grounds : List ℕ → Source → Type 0
-Grounds q receiver = some q ≡ true
-Grounds q transmitter = Unit {0}
+-- other settings: no byte moves and the line status stays
+abbrev pub withIir : Port → Settings → ℕ → Port
+withIir p s iir = record { settings = s; iir = iir; lsr = p .lsr; msr = p .msr; waiting = p .waiting; size = p .size }
 
-pub data Announces (q : List ℕ) (ier iir : ℕ) : ℕ → ℕ → Type 0 where
-  none : Announces q ier iir iir 0
-  then : {j n : ℕ} → Announces q ier iir j n → (s : Source) → Grounds q s
-      → Announces q ier iir (announce ier j (kindOf s) .iir) (n + announce ier j (kindOf s) .raises)
-
-pub once : {q : List ℕ} (ier iir : ℕ) (s : Source) → Grounds q s → Announces q ier iir (announce ier iir (kindOf s) .iir) (announce ier iir (kindOf s) .raises)
-once {q} ier iir s g = subst (λ (n : ℕ). Announces q ier iir (announce ier iir (kindOf s) .iir) n) (zero-add _) (then none s g)
-
--- ---- The four: the port after it, the bytes accepted, whether the data register is read, the bytes delivered, how often the interrupt is raised
-
--- other settings, and announcements: no byte moves and the line status stays
-abbrev pub withMarks : Port → Settings → ℕ → Port
-withMarks p s iir = record { settings = s; iir = iir; lsr = p .lsr; msr = p .msr; waiting = p .waiting; size = p .size }
-
--- bytes come
-abbrev pub withBytes : Port → List ℕ → Port
-withBytes p bytes = withReceiver p (announce (p .settings .ier) (p .iir) receivedData .iir) (lsrReady (p .lsr)) (p .waiting ++ bytes)
-
-pub data Effect (p : Port) : Port → List ℕ → Bool → List ℕ → ℕ → Type 0 where
-  keeps : (s : Settings) {iir n : ℕ} → Announces (p .waiting) (s .ier) (p .iir) iir n → Effect p (withMarks p s iir) [] false [] n
-  comes : (bytes : List ℕ) → some bytes ≡ true → length (p .waiting) + length bytes ≤ p .size
-      → Effect p (withBytes p bytes) bytes false [] (announce (p .settings .ier) (p .iir) receivedData .raises)
-  reads : Effect p (readRbr p .port) [] true (take 1 (p .waiting)) 0
-  identifies : Effect p (readIir p .port) [] false [] 0
+pub data Effect (p : Port) : Port → List ℕ → Bool → List ℕ → Type 0 where
+  keeps : (s : Settings) (iir : ℕ) → Effect p (withIir p s iir) [] false []
+  comes : (bytes : List ℕ) (iir : ℕ) → some bytes ≡ true → length (p .waiting) + length bytes ≤ p .size
+      → Effect p (withReceiver p iir (lsrReady (p .lsr)) (p .waiting ++ bytes)) bytes false []
+  reads : Effect p (readRbr p .port) [] true (take 1 (p .waiting))
 
 -- ---- Reads
 
@@ -68,31 +49,35 @@ read-cases P p a b c reserved = c _
 
 -- ---- Writes
 
-pub write-cases : (P : Out → Bool → Type 0) (p : Port) (v : ℕ) → (hasRoom p ≡ true → P (receives p (v ∷ [])) true)
-    → ((s : Settings) (iir n : ℕ) (l : List ℕ) → Announces (p .waiting) (s .ier) (p .iir) iir n → P (record { port = withMarks p s iir; reply = 0; sent = l; raises = n }) false)
+-- a byte written in the loop comes back, or is lost
+abbrev pub returned : Port → ℕ → Out
+returned p v = let o = receives (emptied p) (v ∷ []) in record { port = o .port; reply = 0; sent = []; raises = transmits p .raises + o .raises }
+
+abbrev pub dropped : Port → Out
+dropped p = record { port = emptied p; reply = 0; sent = []; raises = transmits p .raises + 0 }
+
+pub write-cases : (P : Out → Bool → Type 0) (p : Port) (v : ℕ) → (hasRoom p ≡ true → P (returned p v) true) → P (dropped p) false
+    → P (writeLine p v) false
+    → P (writeIer p v) false → ((s : Settings) → s .ier ≡ p .settings .ier → P (becomes (withSettings p s)) false)
     → (r : Register) → P (writeRegister p r v) (isRbr r && inLoop p && hasRoom p)
-unfolding writeRegister writeIer writeLine isRbr
-write-cases P p v a b RBR-THR = go (inLoop p) (hasRoom p) refl
+unfolding writeRegister writeLoop isRbr
+write-cases P p v a b c d e RBR-THR = go (inLoop p) (hasRoom p) refl
   where
-    go : (l h : Bool) → hasRoom p ≡ h → P (cond l (cond h (receives p (v ∷ [])) (becomes p)) (writeLine p v)) (l && h)
-    go true true e = a e
-    go true false e = b (p .settings) (p .iir) 0 [] none
-    go false h e = b (p .settings) _ _ _ (once _ _ transmitter tt)
-write-cases P p v a b IER = b (putIer (p .settings) (ierStored v)) _ _ [] (then (waiting (some (p .waiting)) refl) transmitter tt)
-  where
-    waiting : (w : Bool) → some (p .waiting) ≡ w → let r : Announced = cond w (announce (ierStored v) (p .iir) receivedData) (record { iir = p .iir; raises = 0 }) in
-        Announces (p .waiting) (ierStored v) (p .iir) (r .iir) (r .raises)
-    waiting true e = once _ _ receiver e
-    waiting false e = none
-write-cases P p v a b IIR-FCR = b _ _ _ _ none
-write-cases P p v a b LCR = b _ _ _ _ none
-write-cases P p v a b MCR = b _ _ _ _ none
-write-cases P p v a b LSR = b _ _ _ _ none
-write-cases P p v a b MSR = b _ _ _ _ none
-write-cases P p v a b SCR = b _ _ _ _ none
-write-cases P p v a b DLL = b _ _ _ _ none
-write-cases P p v a b DLM = b _ _ _ _ none
-write-cases P p v a b reserved = b _ _ _ _ none
+    go : (l h : Bool) → hasRoom p ≡ h
+        → P (cond l (let o = cond h (receives (emptied p) (v ∷ [])) (becomes (emptied p)) in record { port = o .port; reply = 0; sent = []; raises = transmits p .raises + o .raises }) (writeLine p v)) (l && h)
+    go true true k = a k
+    go true false k = b
+    go false h k = c
+write-cases P p v a b c d e IER = d
+write-cases P p v a b c d e IIR-FCR = e (p .settings) refl
+write-cases P p v a b c d e LCR = e _ refl
+write-cases P p v a b c d e MCR = e _ refl
+write-cases P p v a b c d e LSR = e (p .settings) refl
+write-cases P p v a b c d e MSR = e (p .settings) refl
+write-cases P p v a b c d e SCR = e _ refl
+write-cases P p v a b c d e DLL = e _ refl
+write-cases P p v a b c d e DLM = e _ refl
+write-cases P p v a b c d e reserved = e (p .settings) refl
 
 -- ---- Input
 
@@ -129,28 +114,41 @@ first-by-count [] = refl
 first-by-count (x ∷ q) = rw (lt-ltb 0 (suc (length q)) (omega arith))
 
 received : (p : Port) (bytes : List ℕ) → some bytes ≡ true → length (p .waiting) + length bytes ≤ p .size
-    → Effect p (receives p bytes .port) bytes false [] (receives p bytes .raises)
+    → Effect p (receives p bytes .port) bytes false []
 unfolding receives
-received p bytes = comes bytes
+received p bytes = comes bytes _
 
-not-taken : (p : Port) (bytes : List ℕ) (f : Bool) → let a = didInput (takesNone p f) .answer in Effect p p (take (taken a) bytes) false [] (raisesOf a)
-not-taken p bytes true = keeps (p .settings) none
-not-taken p bytes false = keeps (p .settings) none
+looped : (p : Port) (v : ℕ) → hasRoom p ≡ true → Effect p (returned p v .port) (v ∷ []) false []
+unfolding receives
+looped p v h = comes (v ∷ []) _ refl (omega (arith, ltb-true (length (p .waiting)) (p .size) h))
 
-pub effect : (p : Port) (o : Op) → Effect p (step p o .port) (accepted (bookOf p) o (step p o .answer)) (readsData (bookOf p) o) (delivered (bookOf p) o (step p o .answer)) (raisesOf (step p o .answer))
+sent-on : (p : Port) (v : ℕ) → Effect p (writeLine p v .port) [] false []
+unfolding writeLine
+sent-on p v = keeps (p .settings) _
+
+enabled : (p : Port) (v : ℕ) → Effect p (writeIer p v .port) [] false []
+unfolding writeIer
+enabled p v = keeps _ _
+
+not-taken : (p : Port) (bytes : List ℕ) (f : Bool) → Effect p p (take (taken (didInput (takesNone p f) .answer)) bytes) false []
+not-taken p bytes true = keeps (p .settings) (p .iir)
+not-taken p bytes false = keeps (p .settings) (p .iir)
+
+pub effect : (p : Port) (o : Op)
+    → Effect p (step p o .port) (accepted (bookOf p) o (step p o .answer)) (readsData (bookOf p) o) (delivered (bookOf p) o (step p o .answer))
 unfolding step accepted delivered bookOf
 effect p (read offset) =
-    let P : Out → Bool → Type 0 = λ o t. Effect p (o .port) [] t (cond (t && ltb 0 (length (p .waiting))) (o .reply ∷ []) []) (o .raises) in
+    let P : Out → Bool → Type 0 = λ o t. Effect p (o .port) [] t (cond (t && ltb 0 (length (p .waiting))) (o .reply ∷ []) []) in
     subst (λ (t : Bool). P (readOf p offset) t) (rbr-is-data (isOpen p) offset)
-    (read-cases P p (rw first-by-count reads) identifies (λ v. keeps (p .settings) none) (addressed (isOpen p) offset))
+    (read-cases P p (rw first-by-count reads) (keeps (p .settings) _) (λ v. keeps (p .settings) (p .iir)) (addressed (isOpen p) offset))
 effect p (write offset v) =
-    let P : Out → Bool → Type 0 = λ o t. Effect p (o .port) (cond t (v ∷ []) []) false [] (o .raises) in
+    let P : Out → Bool → Type 0 = λ o t. Effect p (o .port) (cond t (v ∷ []) []) false [] in
     subst (λ (t : Bool). P (writeOf p offset v) (t && inLoop p && hasRoom p)) (rbr-is-data (isOpen p) offset)
-    (write-cases P p v (λ h. received p (v ∷ []) refl (omega (arith, ltb-true))) (λ s iir n l a. keeps s a) (addressed (isOpen p) offset))
+    (write-cases P p v (looped p v) (keeps (p .settings) _) (sent-on p v) (enabled p v) (λ s e. keeps s (p .iir)) (addressed (isOpen p) offset))
 effect p (input bytes) =
-    input-cases (λ (i : Input). Effect p (i .port) (take (taken (didInput i .answer)) bytes) false [] (raisesOf (didInput i .answer))) p bytes
+    input-cases (λ (i : Input). Effect p (i .port) (take (taken (didInput i .answer)) bytes) false []) p bytes
     (not-taken p bytes) (received p (take (takes p bytes) bytes))
-effect p room = keeps (p .settings) none
+effect p room = keeps (p .settings) (p .iir)
 
 -- ---- A run in two parts
 

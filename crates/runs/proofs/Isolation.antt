@@ -47,7 +47,8 @@ memory-never-more regs pos ring os =
     omega (arith, never-more (portOf regs pos ring) os (omega arith))
 
 -- Memories with the same registers and the same bytes waiting are the same port, wherever the bytes lie and whatever lies elsewhere ..
-pub alike : (regs pos ring regs′ pos′ ring′ : List ℕ) → Alike regs pos ring regs′ pos′ ring′ → portOf regs pos ring ≡ portOf regs′ pos′ ring′
+pub alike : (regs pos ring regs′ pos′ ring′ : List ℕ) → Alike regs pos ring regs′ pos′ ring′
+    → portOf regs pos ring ≡ portOf regs′ pos′ ring′
 unfolding portOf
 alike regs pos ring regs′ pos′ ring′ a =
     let r = a .registers in

@@ -1,11 +1,11 @@
-pub mod Rooms
+pub mod LineStatus
 pub mod Registers
 pub mod Effects
 pub mod Conserved
 pub mod Status
+pub mod Raising
 pub mod Told
-pub mod Announcing
-pub mod Holes
+pub mod Handling
 pub mod Reachable
 pub mod Exact
 pub mod Isolation

@@ -6,7 +6,9 @@ use native.Mathlib.Omega.{arith}
 use lib.Dec.{eqb}
 use borrow.Author.Tests.{eqb-true, eqb-false, ne-eqb}
 use Rattle.interrupts.specs.Interrupts.{ierStored}
-use Rattle.serial.specs.Port.{Register, RBR-THR, IER, IIR-FCR, LCR, MCR, LSR, MSR, SCR, DLL, DLM, reserved, addressed, Settings, Port, inLoop, hasRoom, putIer, putLcr, putMcr, putScr, putDll, putDlm, Out, receives, writeIer, writeLine, writeRegister}
+use Rattle.serial.specs.Port.{Register, RBR-THR, IER, IIR-FCR, LCR, MCR, LSR, MSR, SCR, DLL, DLM, reserved, addressed, Settings, Port}
+use Rattle.serial.specs.Port.{inLoop, hasRoom, putIer, putLcr, putMcr, putScr, putDll, putDlm, Out, receives, writeIer, writeLine}
+use Rattle.serial.specs.Port.{writeLoop, writeRegister}
 
 -- what holds of both of a test's cases holds of its outcome
 pub both : {A : Type 0} (P : A → Type 0) (t : Bool) {a b : A} → P a → P b → P (cond t a b)
@@ -22,7 +24,8 @@ above n k h e = omega (arith, eqb-false n k e)
 
 -- ---- Offsets
 
-pub addressed-cases : (P : ℕ → Register → Type 0) (dlab : Bool) → P 0 (cond dlab DLL RBR-THR) → P 1 (cond dlab DLM IER) → P 2 IIR-FCR → P 3 LCR → P 4 MCR
+pub addressed-cases : (P : ℕ → Register → Type 0) (dlab : Bool) → P 0 (cond dlab DLL RBR-THR) → P 1 (cond dlab DLM IER) → P 2 IIR-FCR
+    → P 3 LCR → P 4 MCR
     → P 5 LSR → P 6 MSR → P 7 SCR → ((n : ℕ) → 8 ≤ n → P n reserved) → (n : ℕ) → P n (addressed dlab n)
 unfolding addressed
 addressed-cases P dlab p0 p1 p2 p3 p4 p5 p6 p7 p8 n =
@@ -82,8 +85,9 @@ put s DLM v = putDlm s v
 put s reserved v = s
 
 pub write-puts : (p : Port) (r : Register) (v : ℕ) → writeRegister p r v .port .settings ≡ put (p .settings) r v
-unfolding writeRegister put receives writeIer writeLine
-write-puts p RBR-THR v = let P : Out → Type 0 = λ o. o .port .settings ≡ p .settings in both P (inLoop p) (both P (hasRoom p) refl refl) refl
+unfolding writeRegister put receives writeIer writeLine writeLoop
+write-puts p RBR-THR v = let P : Out
+    → Type 0 = λ o. o .port .settings ≡ p .settings in both P (inLoop p) (both P (hasRoom p) refl refl) refl
 write-puts p IER v = refl
 write-puts p IIR-FCR v = refl
 write-puts p LCR v = refl

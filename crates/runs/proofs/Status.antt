@@ -13,8 +13,8 @@ use Rattle.serial.specs.Port.{Port, fresh}
 use Rattle.runs.specs.Run.{Op, step, run}
 use Rattle.runs.specs.Book.{bookOf}
 use Rattle.runs.specs.Status.{Truthful, Same, noneLeft, settles, settled}
-use Rattle.runs.proofs.Rooms.{ready-set, ready-cleared}
-use Rattle.runs.proofs.Effects.{Effect, keeps, comes, reads, identifies, effect}
+use Rattle.runs.proofs.LineStatus.{ready-set, ready-cleared}
+use Rattle.runs.proofs.Effects.{Effect, keeps, comes, reads, effect}
 use Rattle.runs.proofs.Conserved.{book-right}
 
 pub some-more : (q l : List ℕ) → some l ≡ true → some (q ++ l) ≡ true
@@ -28,23 +28,24 @@ true-after-read [] lsr e = ready-cleared lsr
 true-after-read (x ∷ []) lsr e = ready-cleared lsr
 true-after-read (x ∷ y ∷ q) lsr e = absurd (omega (arith, leb-true))
 
-true-after : {p q : Port} {a d : List ℕ} {t : Bool} {n : ℕ} → Effect p q a t d n → (some a || (t && noneLeft (length (p .waiting)))) ≡ true → Truthful q
+true-after : {p q : Port} {a d : List ℕ} {t : Bool} → Effect p q a t d → (some a || (t && noneLeft (length (p .waiting)))) ≡ true
+    → Truthful q
 true-after (keeps s m) h = absurd (false≢true h)
-true-after {p} (comes bytes s _) h = ready-set (p .lsr) ∙ sym (some-more (p .waiting) bytes s)
+true-after {p} (comes bytes i s _) h = ready-set (p .lsr) ∙ sym (some-more (p .waiting) bytes s)
 true-after {p} reads h = true-after-read (p .waiting) (p .lsr) h
-true-after identifies h = absurd (false≢true h)
 
-same-after-read : (q : List ℕ) (lsr : ℕ) → noneLeft (length q) ≡ false → (on (lsrAfterRead (some (tail q)) lsr) 0x01 ≡ on lsr 0x01) × (some (tail q) ≡ some q)
+same-after-read : (q : List ℕ) (lsr : ℕ) → noneLeft (length q) ≡ false
+    → (on (lsrAfterRead (some (tail q)) lsr) 0x01 ≡ on lsr 0x01) × (some (tail q) ≡ some q)
 unfolding lsrAfterRead
 same-after-read [] lsr e = absurd (true≢false e)
 same-after-read (x ∷ []) lsr e = absurd (true≢false e)
 same-after-read (x ∷ y ∷ q) lsr e = (refl, refl)
 
-same-after : {p q : Port} {a d : List ℕ} {t : Bool} {n : ℕ} → Effect p q a t d n → (some a || (t && noneLeft (length (p .waiting)))) ≡ false → Same p q
+same-after : {p q : Port} {a d : List ℕ} {t : Bool} → Effect p q a t d → (some a || (t && noneLeft (length (p .waiting)))) ≡ false
+    → Same p q
 same-after (keeps s m) h = record { says = refl; waits = refl }
-same-after {p} (comes bytes s _) h = absurd (true≢false (sym (ap (λ (b : Bool). b || (false && noneLeft (length (p .waiting)))) s) ∙ h))
+same-after {p} (comes bytes i s _) h = absurd (true≢false (sym (ap (λ (b : Bool). b || (false && noneLeft (length (p .waiting)))) s) ∙ h))
 same-after {p} reads h = let r = same-after-read (p .waiting) (p .lsr) h in record { says = r .0; waits = r .1 }
-same-after identifies h = record { says = refl; waits = refl }
 
 -- After an operation that settles it the register tells the truth, whatever it said before ..
 pub settling : (p : Port) (o : Op) → settles (bookOf p) o (step p o .answer) ≡ true → Truthful (step p o .port)
@@ -64,7 +65,8 @@ still s t = s .says ∙ t ∙ sym (s .waits)
 join : {p q r : Port} → Same p q → Same q r → Same p r
 join s t = record { says = t .says ∙ s .says; waits = t .waits ∙ s .waits }
 
--- The same over a run: where some operation settles it the register tells the truth at the end; where none does, bit and bytes are as they were.
+-- The same over a run: where some operation settles it the register tells the truth at the end; where none does, bit and bytes are as they
+-- were.
 pub over-run : (p : Port) (os : List Op) → let s = settled (bookOf p) os (run p os .answers) in
     (s ≡ true → Truthful (run p os .port)) × (s ≡ false → Same p (run p os .port))
 unfolding run

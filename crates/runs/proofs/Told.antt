@@ -1,145 +1,131 @@
--- Interrupts over runs: what is raised, how often, and that the guest is told of the bytes that come; and the runs after which it is not.
-use mathlib.Core.Path.{_≡_, refl, sym, subst, _∙_}
+-- What the guest is told, over every run and from any port.
+use mathlib.Core.Path.{_≡_, refl, sym, ap, subst, _∙_}
 use mathlib.Core.Logic.{_⊎_, inl, inr, ⊎-elim}
-use mathlib.Core.Bool.{Bool, true, false, cond, not, _&&_, false≢true, true≢false}
-use mathlib.Core.List.{List, [], _∷_, _++_}
+use mathlib.Core.Bool.{Bool, true, false, cond, not, _&&_, _||_, true≢false, false≢true}
+use mathlib.Core.List.{List, [], _∷_}
 use Prim.Native.Nat.{ℕ, _+_, _≤_}
 use native.Mathlib.Omega.{arith}
 use Rattle.common.specs.Lists.{some}
-use Rattle.interrupts.specs.Interrupts.{isEnabled, isMarked, Announced}
-use Rattle.serial.specs.Port.{Port, fresh}
-use Rattle.runs.specs.Run.{Op, raisesOf, raisesIn, step, run}
-use Rattle.runs.specs.Book.{accepted, bookOf}
-use Rattle.serial.specs.Sources.{Source, receiver, transmitter, kindOf, enabled, marked}
-use Rattle.runs.specs.Told.{newly, Signals, markings, Stays, Told, now, later}
-use Rattle.runs.proofs.Rooms.{mark-grows, mark-new, marks, mark-counts, unmark-shrinks, none-marked, Outcome, raised, quiet, outcome, announced-marked}
-use Rattle.runs.proofs.Effects.{Announces, none, then, once, Effect, keeps, comes, reads, identifies, effect, run-on}
+use Rattle.interrupts.specs.Interrupts.{Kind, receivedData, transmitterEmpty, isHigh, code, newly}
+use Rattle.serial.specs.Port.{Port, addressed, active, line, readRegister, readOf}
+use Rattle.runs.specs.Run.{Op, raisesOf, step, run}
+use Rattle.runs.specs.Told.{enabled, raisedFrom, endsIn, Stays, RaisedSince, now, later, portNext, portRaises}
+use Rattle.runs.proofs.Raising.{left, right, both, raises-exactly}
 
--- ---- Announcements
+-- ---- A call
 
--- what announcements under one IER do: a mark that stands is not taken away, a new one is of a source that is enabled, and the interrupt is raised
--- once for each new one
-pub record Marking (ier iir iir′ n : ℕ) : Type 0 where
-  pub grows : (t : Source) → isMarked iir (kindOf t) ≡ true → isMarked iir′ (kindOf t) ≡ true
-  pub new : (t : Source) → isMarked iir (kindOf t) ≡ false → isMarked iir′ (kindOf t) ≡ true → isEnabled ier (kindOf t) ≡ true
-  pub counts : n + marks iir ≡ marks iir′
+-- Where the line rises, the call raises ..
+rises : (a b c d : Bool) → (a || b) ≡ false → (c || d) ≡ true → 1 ≤ newly a c + newly b d
+rises false false true d h k = omega arith
+rises false false false true h k = omega arith
+rises false false false false h k = absurd (false≢true k)
+rises true b c d h k = absurd (true≢false h)
+rises false true c d h k = absurd (true≢false h)
 
-pub one : {s : Source} {ier iir : ℕ} {a : Announced} → Outcome s ier iir a → Marking ier iir (a .iir) (a .raises)
-one {s} {ier} {iir} (raised e m) = record {
-  grows = λ t. mark-grows s t iir;
-  new = λ t h g. subst (λ (u : Source). isEnabled ier (kindOf u) ≡ true) (mark-new s t iir h g) e;
-  counts = mark-counts s iir m;
-}
-one (quiet h) = record { grows = λ t g. g; new = λ t h g. absurd (false≢true (sym h ∙ g)); counts = omega arith }
+pub rise-raises : (p : Port) (o : Op) → line p ≡ false → line (step p o .port) ≡ true → 1 ≤ raisesOf (step p o .answer)
+unfolding isHigh
+rise-raises p o h k =
+    let q = step p o .port in
+    omega (arith, raises-exactly p o, rises (active p receivedData) (active p transmitterEmpty) (active q receivedData) (active q transmitterEmpty) h k)
 
--- whether a mark stood or not
-pub split : (t : Bool) → (t ≡ true) ⊎ (t ≡ false)
-split true = inl refl
-split false = inr refl
+-- .. and where a call raises, the line is high after it.
+high : (a b c d : Bool) → 1 ≤ newly a c + newly b d → (c || d) ≡ true
+high a b true d h = refl
+high a b false true h = refl
+high true true false false h = absurd (omega arith)
+high true false false false h = absurd (omega arith)
+high false true false false h = absurd (omega arith)
+high false false false false h = absurd (omega arith)
 
-both : {ier i j k n m : ℕ} → Marking ier i j n → Marking ier j k m → Marking ier i k (n + m)
-both {j = j} a b = record {
-  grows = λ t h. b .grows t (a .grows t h);
-  new = λ t h g. ⊎-elim (λ e. a .new t h e) (λ e. b .new t e g) (split (isMarked j (kindOf t)));
-  counts = omega (arith, a .counts, b .counts);
-}
+pub raise-high : (p : Port) (o : Op) → 1 ≤ raisesOf (step p o .answer) → line (step p o .port) ≡ true
+unfolding isHigh
+raise-high p o h =
+    let q = step p o .port in
+    high (active p receivedData) (active p transmitterEmpty) (active q receivedData) (active q transmitterEmpty) (omega (arith, raises-exactly p o))
 
-pub marking : {q : List ℕ} {ier iir iir′ n : ℕ} → Announces q ier iir iir′ n → Marking ier iir iir′ n
-marking none = record { grows = λ t g. g; new = λ t h g. absurd (false≢true (sym h ∙ g)); counts = omega arith }
-marking (then a s g) = both (marking a) (one (outcome s _ _))
+-- A kind that comes to be active is raised.
+comes : (a b c d : Bool) → a ≡ false → c ≡ true → (1 ≤ newly a c + newly b d) × (1 ≤ newly b d + newly a c)
+comes false b true d h k = (omega arith, omega arith)
+comes true b c d h k = absurd (true≢false h)
+comes false b false d h k = absurd (false≢true k)
 
--- ---- One operation
+pub active-raises : (kind : Kind) (p : Port) (o : Op) → active p kind ≡ false → active (step p o .port) kind ≡ true
+    → 1 ≤ raisesOf (step p o .answer)
+active-raises receivedData p o h k =
+    let q = step p o .port in
+    omega (arith, raises-exactly p o, comes (active p receivedData) (active p transmitterEmpty) (active q receivedData) (active q transmitterEmpty) h k .0)
+active-raises transmitterEmpty p o h k =
+    let q = step p o .port in
+    omega (arith, raises-exactly p o, comes (active p transmitterEmpty) (active p receivedData) (active q transmitterEmpty) (active q receivedData) h k .1)
 
-adds : (b c : Bool) → (b ≡ true → c ≡ true) → cond c 1 0 ≡ cond b 1 0 + cond (not b && c) 1 0
-adds true true h = refl
-adds true false h = absurd (false≢true (h refl))
-adds false true h = refl
-adds false false h = refl
+-- Twice at most.
+once : (a b : Bool) → newly a b ≤ 1
+once true b = omega arith
+once false true = omega arith
+once false false = omega arith
 
-from-marking : {p q : Port} {n : ℕ} → Marking (q .settings .ier) (p .iir) (q .iir) n → Signals p q n
-from-marking {p} {q} m = record {
-  counts = omega (arith, m .counts, adds (marked p receiver) (marked q receiver) (m .grows receiver), adds (marked p transmitter) (marked q transmitter) (m .grows transmitter));
-  allowed = m .new;
-}
-
--- nothing is marked that was not
-none-new : {p q : Port} → ((s : Source) → marked q s ≡ true → marked p s ≡ true) → Signals p q 0
-none-new {p} {q} h = record {
-  counts = omega (arith, no-new (marked p receiver) (marked q receiver) (h receiver), no-new (marked p transmitter) (marked q transmitter) (h transmitter));
-  allowed = λ s e f. absurd (false≢true (sym e ∙ h s f));
-}
-  where
-    no-new : (b c : Bool) → (c ≡ true → b ≡ true) → _≡_ {A = ℕ} (cond (not b && c) 1 0) 0
-    no-new true c h = refl
-    no-new false true h = absurd (false≢true (h refl))
-    no-new false false h = refl
-
-signals-step : {p q : Port} {a d : List ℕ} {t : Bool} {n : ℕ} → Effect p q a t d n → Signals p q n
-signals-step (keeps s m) = from-marking (marking m)
-signals-step (comes bytes s h) = from-marking (one (outcome receiver _ _))
-signals-step {p} reads = none-new (λ s. unmark-shrinks s (p .iir))
-signals-step identifies = none-new (λ s h. absurd (true≢false (sym h ∙ none-marked s)))
-
-pub signals : (p : Port) (o : Op) → Signals p (step p o .port) (raisesOf (step p o .answer))
-signals p o = signals-step (effect p o)
-
--- Whenever bytes are accepted while received data is enabled, it is marked afterwards.
-marks-step : {p q : Port} {a d : List ℕ} {t : Bool} {n : ℕ} → Effect p q a t d n → some a ≡ true → enabled p receiver ≡ true → marked q receiver ≡ true
-marks-step (keeps s m) h e = absurd (false≢true h)
-marks-step {p} (comes bytes s _) h e = announced-marked (outcome receiver (p .settings .ier) (p .iir)) e
-marks-step reads h e = absurd (false≢true h)
-marks-step identifies h e = absurd (false≢true h)
-
-pub accepting-marks : (p : Port) (o : Op) → some (accepted (bookOf p) o (step p o .answer)) ≡ true → enabled p receiver ≡ true → marked (step p o .port) receiver ≡ true
-accepting-marks p o = marks-step (effect p o)
+pub at-most-twice : (p : Port) (o : Op) → raisesOf (step p o .answer) ≤ 2
+at-most-twice p o =
+    let q = step p o .port in
+    omega (arith, raises-exactly p o, once (active p receivedData) (active q receivedData), once (active p transmitterEmpty) (active q transmitterEmpty))
 
 -- ---- Every run
 
--- The interrupt is raised as often as a source comes to be marked.
-pub counted : (p : Port) (os : List Op) → raisesIn (run p os .answers) ≡ markings p os
-unfolding run markings
-counted p [] = refl
-counted p (o ∷ os) = omega (arith, signals p o .counts, counted (step p o .port) os)
+module _ {State Deed : Type 0} (next : State → Deed → State) (raises : State → Deed → ℕ) (f : State → Bool)
+    (rising : (s : State) (d : Deed) → f s ≡ false → f (next s d) ≡ true → 1 ≤ raises s d) where
+  stays-first : (s : State) (ds : List Deed) → Stays next raises f s ds → f s ≡ true
+  unfolding Stays
+  stays-first s [] h = h
+  stays-first s (d ∷ ds) h = h .0
 
--- where a source comes to be marked the interrupt is raised
-is-new : {b c : Bool} → b ≡ false → c ≡ true → _≡_ {A = ℕ} (cond (not b && c) 1 0) 1
-is-new e f = rw (e, f)
+  pub stays-or-raised : (s : State) (ds : List Deed) → f (endsIn next s ds) ≡ true
+      → Stays next raises f s ds ⊎ RaisedSince next raises f s ds
+  unfolding Stays
+  stays-or-raised s [] h = inl h
+  stays-or-raised s (d ∷ ds) h = go (f s) refl (stays-or-raised (next s d) ds h)
+    where
+      go : (m : Bool) → f s ≡ m → Stays next raises f (next s d) ds ⊎ RaisedSince next raises f (next s d) ds
+          → Stays next raises f s (d ∷ ds) ⊎ RaisedSince next raises f s (d ∷ ds)
+      go m e (inr t) = inr (later t)
+      go true e (inl t) = inl (e, t)
+      go false e (inl t) = inr (now e (rising s d e (stays-first (next s d) ds t)) t)
 
-raises : {p q : Port} {n : ℕ} → Signals p q n → (s : Source) → marked p s ≡ false → marked q s ≡ true → 1 ≤ n
-raises g receiver e f = omega (arith, g .counts, is-new e f)
-raises g transmitter e f = omega (arith, g .counts, is-new e f)
+  pub raised-since : (s : State) (ds : List Deed) → f s ≡ false → f (endsIn next s ds) ≡ true → RaisedSince next raises f s ds
+  raised-since s ds e h = ⊎-elim (λ t. absurd (false≢true (sym e ∙ stays-first s ds t))) (λ t. t) (stays-or-raised s ds h)
 
-stays-first : (s : Source) (p : Port) (os : List Op) → Stays s p os → marked p s ≡ true
-unfolding Stays
-stays-first s p [] h = h
-stays-first s p (o ∷ os) h = h .0
-
--- A source that is marked at the end was marked all along, or the guest has been told of it since it was last unmarked.
-pub stays-or-told : (s : Source) (p : Port) (os : List Op) → marked (run p os .port) s ≡ true → Stays s p os ⊎ Told s p os
-unfolding run Stays
-stays-or-told s p [] h = inl h
-stays-or-told s p (o ∷ os) h = go (marked p s) refl (stays-or-told s (step p o .port) os h)
-  where
-    go : (m : Bool) → marked p s ≡ m → Stays s (step p o .port) os ⊎ Told s (step p o .port) os → Stays s p (o ∷ os) ⊎ Told s p (o ∷ os)
-    go true e (inr t) = inr (later t)
-    go false e (inr t) = inr (later t)
-    go true e (inl t) = inl (e, t)
-    go false e (inl t) = inr (now e (raises (signals p o) s e (stays-first s (step p o .port) os t)) t)
-
--- So where it was not marked at the start, as on a fresh port, the guest has been told of whatever is marked.
-pub told : (s : Source) (p : Port) (os : List Op) → marked p s ≡ false → marked (run p os .port) s ≡ true → Told s p os
-told s p os e h = ⊎-elim (λ t. absurd (false≢true (sym e ∙ stays-first s p os t))) (λ t. t) (stays-or-told s p os h)
-
-one-step : (p : Port) (o : Op) → run p (o ∷ []) .port ≡ step p o .port
+run-ends : (p : Port) (os : List Op) → run p os .port ≡ endsIn portNext p os
 unfolding run
-one-step p o = refl
+run-ends p [] = refl
+run-ends p (o ∷ os) = run-ends (step p o .port) os
 
--- the same of what is marked after one operation more
-pub told-last : (s : Source) (p : Port) (os : List Op) (o : Op) → marked p s ≡ false → marked (step (run p os .port) o .port) s ≡ true → Told s p (os ++ (o ∷ []))
-told-last s p os o u m = told s p (os ++ (o ∷ [])) u (subst (λ (q : Port). marked q s ≡ true) (sym (run-on p os (o ∷ []) ∙ one-step (run p os .port) o)) m)
+-- Whenever the line is high it was high all along, or it was raised since it was last low; so from a port where it is low, as a fresh one,
+-- it was raised.
+pub line-stays-or-raised : (p : Port) (os : List Op) → line (run p os .port) ≡ true
+    → Stays portNext portRaises line p os ⊎ RaisedSince portNext portRaises line p os
+line-stays-or-raised p os h = stays-or-raised portNext portRaises line rise-raises p os (sym (ap line (run-ends p os)) ∙ h)
 
--- Whenever bytes are accepted while received data is enabled, it is marked afterwards, and the guest has been told of it since it was last unmarked.
-pub accepting-tells : (p : Port) (os : List Op) (o : Op) → marked p receiver ≡ false → let q = run p os .port in
-    some (accepted (bookOf q) o (step q o .answer)) ≡ true → enabled q receiver ≡ true
-    → (marked (step q o .port) receiver ≡ true) × Told receiver p (os ++ (o ∷ []))
-accepting-tells p os o u a e = let m = accepting-marks (run p os .port) o a e in (m, told-last receiver p os o u m)
+pub line-raised : (p : Port) (os : List Op) → line p ≡ false → line (run p os .port) ≡ true → RaisedSince portNext portRaises line p os
+line-raised p os e h = raised-since portNext portRaises line rise-raises p os e (sym (ap line (run-ends p os)) ∙ h)
+
+-- The same of each kind.
+pub kind-raised : (kind : Kind) (p : Port) (os : List Op) → active p kind ≡ false → active (run p os .port) kind ≡ true
+    → RaisedSince portNext portRaises (λ q. active q kind) p os
+kind-raised kind p os e h =
+    let f : Port → Bool = λ q. active q kind in
+    raised-since portNext portRaises f (active-raises kind) p os e (sym (ap f (run-ends p os)) ∙ h)
+
+-- ---- A byte that waits
+
+-- While a byte waits and received data is enabled the line is high and IIR says so, on any port.
+pub waiting-shows : (p : Port) → some (p .waiting) ≡ true → enabled p receivedData ≡ true → (line p ≡ true) × (readOf p 2 .reply ≡ 0xc4)
+unfolding isHigh code addressed readRegister
+waiting-shows p w e = rw (w, e) (refl, refl)
+
+-- So a guest that reads IIR until it says "none" has fetched every byte.
+
+pub none-left : (p : Port) → readOf p 2 .reply ≡ 0xc1 → enabled p receivedData ≡ true → p .waiting ≡ []
+none-left p h e = empty (p .waiting) (λ w. waiting-shows p w e .1)
+  where
+    empty : (q : List ℕ) → (some q ≡ true → readOf p 2 .reply ≡ 0xc4) → q ≡ []
+    empty [] k = refl
+    empty (x ∷ q) k = absurd (omega (arith, h, k refl))

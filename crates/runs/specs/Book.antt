@@ -1,4 +1,5 @@
--- What the host can account for: from the operations of a run and their answers alone, which bytes the port accepted and which it delivered.
+-- What the host can account for: from the operations of a run and their answers alone, which bytes the port accepted and which it
+-- delivered.
 use Prim.Native.Nat.{ℕ, _+_, _-_}
 use mathlib.Core.Bool.{Bool, false, cond, not, _&&_}
 use mathlib.Core.List.{List, [], _∷_, _++_}

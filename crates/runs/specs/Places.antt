@@ -1,5 +1,5 @@
--- What of a port's memory counts: the nine registers, how many bytes wait, and those bytes; not where they lie, not what lies elsewhere, and not what
--- is spare.
+-- What of a port's memory counts: the nine registers, how many bytes wait, and those bytes; not where they lie, not what lies elsewhere,
+-- and not what is spare.
 use Prim.Native.Nat.{ℕ, _+_, _%_, _<_}
 use mathlib.Core.Path.{_≡_}
 use mathlib.Core.List.{List}

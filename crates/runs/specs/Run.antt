@@ -11,8 +11,8 @@ pub data Op : Type 0 where
   input : List ℕ → Op
   room : Op
 
--- What the call answers: the reply to a read; the byte that a write sends, if it sends one; how many bytes of an input are taken, or that the
--- receiver is full. The number behind it is how often the interrupt is raised. Asking for room answers the room.
+-- What the call answers: the reply to a read; the byte that a write sends, if it sends one; how many bytes of an input are taken, or that
+-- the receiver is full. The number behind it is how often the interrupt is raised. Asking for room answers the room.
 pub data Answer : Type 0 where
   replied : ℕ → ℕ → Answer
   sent : List ℕ → ℕ → Answer

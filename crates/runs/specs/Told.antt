@@ -1,85 +1,69 @@
--- What the guest is told: which kinds of interrupt are marked, and when one is raised.
-use Prim.Native.Nat.{ℕ, _+_, _≤_}
+-- What the guest is told: which kinds of interrupt are active, when the interrupt is raised, and what a handler finds.
+use Prim.Native.Nat.{ℕ, zero, suc, _+_, _≤_}
 use mathlib.Core.Path.{_≡_}
-use mathlib.Core.Bool.{Bool, true, false, cond, not, _&&_}
-use mathlib.Core.List.{List, [], _∷_}
+use mathlib.Core.Bool.{Bool, true, false, cond}
+use mathlib.Core.List.{List, [], _∷_, _++_}
 use lib.ListN.{length}
 use lib.Dec.{eqb}
-use Rattle.common.specs.Lists.{some}
-use Rattle.interrupts.specs.Interrupts.{ierStored, isEnabled}
-use Rattle.serial.specs.Port.{Port, isOpen, inLoop, hasRoom}
-use Rattle.serial.specs.Sources.{Source, receiver, transmitter, kindOf, enabled, marked, present}
-use Rattle.runs.specs.Run.{Op, read, write, input, room, raisesOf, step}
+use Rattle.interrupts.specs.Interrupts.{Kind, receivedData, transmitterEmpty, isEnabled, newly}
+use Rattle.serial.specs.Port.{Port, active, readOf}
+use Rattle.runs.specs.Run.{Op, raisesOf, step}
 
--- ---- How often a call raises, from the port before it
+abbrev pub enabled : Port → Kind → Bool
+enabled p kind = isEnabled (p .settings .ier) kind
 
--- THR is written: in the loop the byte comes back, if there is room; on the line it is sent. Bytes come over the line, and some are taken.
-abbrev pub thrTells : Port → Source → Bool
-thrTells p receiver = inLoop p && hasRoom p
-thrTells p transmitter = not (inLoop p)
+-- ---- How often a call raises
 
-abbrev pub inputTells : Port → List ℕ → Source → Bool
-inputTells p bytes receiver = not (inLoop p) && (some bytes && hasRoom p)
-inputTells p bytes transmitter = false
+-- From one port to another: once for each kind that is active in the second and was not in the first.
+abbrev pub raisedFrom : Port → Port → ℕ
+raisedFrom p q = newly (active p receivedData) (active q receivedData) + newly (active p transmitterEmpty) (active q transmitterEmpty)
 
--- Of which sources a call has to tell. Offset 0 is THR and 1 is IER while the divisor is closed; a write of IER tells of whatever is present.
-abbrev pub tells : Port → Op → Source → Bool
-tells p (read offset) s = false
-tells p (write offset v) s = cond (eqb offset 0) (not (isOpen p) && thrTells p s) (eqb offset 1 && (not (isOpen p) && present p s))
-tells p (input bytes) s = inputTells p bytes s
-tells p room s = false
+-- ---- Raised since
 
--- It raises once for each of these that is enabled after it and was not marked before it.
-abbrev pub due : Port → Op → Source → Bool
-due p o s = tells p o s && (enabled (step p o .port) s && not (marked p s))
+-- Whatever goes on deed by deed and raises: a port with its operations, or a host with what it does.
+abbrev pub endsIn : {State Deed : Type 0} → (State → Deed → State) → State → List Deed → State
+endsIn next s [] = s
+endsIn next s (d ∷ ds) = endsIn next (next s d) ds
 
-abbrev pub raisesBy : Port → Op → ℕ
-raisesBy p o = cond (due p o receiver) 1 0 + cond (due p o transmitter) 1 0
+module _ {State Deed : Type 0} (next : State → Deed → State) (raises : State → Deed → ℕ) (f : State → Bool) where
+  -- Something is so from here on, up to the end: the line is high, say, or a kind is active.
+  unfoldable pub Stays : State → List Deed → Type 0
+  Stays s [] = f s ≡ true
+  Stays s (d ∷ ds) = (f s ≡ true) × Stays (next s d) ds
 
--- A write of IER raises once for each source that is present, that the value enables, and that was not marked.
-abbrev pub enablesNew : Port → ℕ → Source → Bool
-enablesNew p v s = present p s && (isEnabled (ierStored v) (kindOf s) && not (marked p s))
+  -- The interrupt was raised since it last was not so: some deed found it not so and raised, and from then on it is so up to the end.
+  pub data RaisedSince : State → List Deed → Type 0 where
+    now : {s : State} {d : Deed} {ds : List Deed} → f s ≡ false → 1 ≤ raises s d → Stays (next s d) ds → RaisedSince s (d ∷ ds)
+    later : {s : State} {d : Deed} {ds : List Deed} → RaisedSince (next s d) ds → RaisedSince s (d ∷ ds)
 
--- ---- What is marked and raised
+-- A port with its operations.
+abbrev pub portNext : Port → Op → Port
+portNext p o = step p o .port
 
--- 1 where the source is not marked in the first port and is in the second, else 0.
-abbrev pub newly : Port → Port → Source → ℕ
-newly p q s = cond (not (marked p s) && marked q s) 1 0
+abbrev pub portRaises : Port → Op → ℕ
+portRaises p o = raisesOf (step p o .answer)
 
--- What an operation may raise: the interrupt once for each source that it marks and that was not marked; and such a source is enabled.
-pub record Signals (p q : Port) (raises : ℕ) : Type 0 where
-  pub counts : raises ≡ newly p q receiver + newly p q transmitter
-  pub allowed : (s : Source) → marked p s ≡ false → marked q s ≡ true → enabled q s ≡ true
+-- ---- A handler that does what it is told
 
--- How often a source came to be marked over a run.
-unfoldable pub markings : Port → List Op → ℕ
-markings p [] = 0
-markings p (o ∷ os) = let q = step p o .port in newly p q receiver + newly p q transmitter + markings q os
+-- It reads IIR. Where that says received data it fetches a byte from RBR and goes on; where it says the empty transmitter it has nothing to
+-- send and goes on; where it says none it ends. It gives up after so many rounds.
+pub record Served : Type 0 where
+  pub port : Port
+  pub fetched : List ℕ
 
--- The source is marked from here on, up to the end of the run.
-unfoldable pub Stays : Source → Port → List Op → Type 0
-Stays s p [] = marked p s ≡ true
-Stays s p (o ∷ os) = (marked p s ≡ true) × Stays s (step p o .port) os
+abbrev pub fetching : ℕ → Served → Served
+fetching byte s = record { port = s .port; fetched = byte ∷ s .fetched }
 
--- The guest has been told of the source since it was last unmarked: some operation found it not marked and raised the interrupt, and from then on
--- it is marked up to the end of the run.
-pub data Told (s : Source) : Port → List Op → Type 0 where
-  now : {p : Port} {o : Op} {os : List Op} → marked p s ≡ false → 1 ≤ raisesOf (step p o .answer) → Stays s (step p o .port) os → Told s p (o ∷ os)
-  later : {p : Port} {o : Op} {os : List Op} → Told s (step p o .port) os → Told s p (o ∷ os)
+unfoldable pub serve : ℕ → Port → Served
+serve zero p = record { port = p; fetched = [] }
+serve (suc rounds) p =
+    let told = readOf p 2 in
+    let byte = readOf (told .port) 0 in
+    cond (eqb (told .reply) 0xc4) (fetching (byte .reply) (serve rounds (byte .port)))
+    (cond (eqb (told .reply) 0xc2) (serve rounds (told .port))
+    (record { port = told .port; fetched = [] }))
 
--- A byte waits, received data is enabled, and it is not marked: nothing tells the guest of the byte.
-pub record Untold (p : Port) : Type 0 where
-  pub waits : some (p .waiting) ≡ true
-  pub enables : enabled p receiver ≡ true
-  pub unmarked : marked p receiver ≡ false
-
--- The operations after which that can be so though it was not so before: the identification register is read and the bytes stay; a byte is read and
--- others stay. By the manual received data stays pending while a byte waits: DIFFERENCES, "serial-forgotten-data".
-pub data Hole (p : Port) : Op → Type 0 where
-  identified : Hole p (read 2)
-  read-one : 2 ≤ length (p .waiting) → Hole p (read 0)
-
--- Some operation of the run is one of them.
-pub data MeetsHole : Port → List Op → Type 0 where
-  here : {p : Port} {o : Op} {os : List Op} → Hole p o → MeetsHole p (o ∷ os)
-  further : {p : Port} {o : Op} {os : List Op} → MeetsHole (step p o .port) os → MeetsHole p (o ∷ os)
+-- How many rounds there are for it: one for each byte that waits, if received data is enabled, and one for the transmitter, if that is
+-- active.
+abbrev pub rounds : Port → ℕ
+rounds p = cond (enabled p receivedData) (length (p .waiting)) 0 + cond (active p transmitterEmpty) 1 0

@@ -28,7 +28,8 @@ module _ (dlab : Bool) (offset : ℕ) where
   unfolding addressed
   at-iir e = rw e
 
-  pub at-reserved : 2 ≤ offset → (offset ≡ 2 → ⊥) → (offset ≡ 3 → ⊥) → (offset ≡ 4 → ⊥) → (offset ≡ 5 → ⊥) → (offset ≡ 6 → ⊥) → (offset ≡ 7 → ⊥) → addressed dlab offset ≡ reserved
+  pub at-reserved : 2 ≤ offset → (offset ≡ 2 → ⊥) → (offset ≡ 3 → ⊥) → (offset ≡ 4 → ⊥) → (offset ≡ 5 → ⊥) → (offset ≡ 6 → ⊥)
+      → (offset ≡ 7 → ⊥) → addressed dlab offset ≡ reserved
   unfolding addressed
   at-reserved h a b c d e f =
       rw (ne-eqb offset 0 (λ z. omega arith), ne-eqb offset 1 (λ z. omega arith), ne-eqb _ _ a, ne-eqb _ _ b, ne-eqb _ _ c, ne-eqb _ _ d, ne-eqb _ _ e, ne-eqb _ _ f)
@@ -41,7 +42,8 @@ module _ (dlab : Bool) (offset : ℕ) where
   nothing p v false false true = refl
   nothing p v false false false = refl
 
-  pub unwritten : (p : Port) (v : ℕ) → 2 ≤ offset → (offset ≡ 3 → ⊥) → (offset ≡ 4 → ⊥) → (offset ≡ 7 → ⊥) → writeRegister p (addressed dlab offset) v ≡ becomes p
+  pub unwritten : (p : Port) (v : ℕ) → 2 ≤ offset → (offset ≡ 3 → ⊥) → (offset ≡ 4 → ⊥) → (offset ≡ 7 → ⊥)
+      → writeRegister p (addressed dlab offset) v ≡ becomes p
   unfolding addressed
   unwritten p v h a b c =
       rw (ne-eqb offset 0 (λ z. omega arith), ne-eqb offset 1 (λ z. omega arith), ne-eqb _ _ a, ne-eqb _ _ b, ne-eqb _ _ c) (nothing p v (eqb offset 2) (eqb offset 5) (eqb offset 6))

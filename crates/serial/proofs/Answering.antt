@@ -27,7 +27,8 @@ module _ {regs pos ring : List ℕ} {r : ℕ} {port : Port} {word : ℕ} where
     unchangedIfSamePort = λ s. (same-registers regs pos ring regs′ pos ring n k (e ∙ s), (refl, refl));
   }
 
-  pub other-count : {regs′ pos′ ring′ : List ℕ} → portOf regs′ pos′ ring′ ≡ port → unusedOf pos′ ring′ ≡ unusedOf pos′ ring → Stored regs regs′ → sparePositions pos′ ≡ sparePositions pos → (countOf pos′ ≡ countOf pos → ⊥) → r ≡ word
+  pub other-count : {regs′ pos′ ring′ : List ℕ} → portOf regs′ pos′ ring′ ≡ port → unusedOf pos′ ring′ ≡ unusedOf pos′ ring
+      → Stored regs regs′ → sparePositions pos′ ≡ sparePositions pos → (countOf pos′ ≡ countOf pos → ⊥) → r ≡ word
       → Answers regs pos ring regs′ pos′ ring′ r port word
   other-count {regs′} {pos′} {ring′} e k s p d a = record {
     answer = a;

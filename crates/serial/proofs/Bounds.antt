@@ -19,7 +19,8 @@ pub memory-fits : (regs pos ring : List ℕ) → length (portOf regs pos ring .w
 memory-fits regs pos ring = omega (arith, waiting-length regs pos ring)
 
 -- From a fresh port on the spare registers stay 0, over every call that keeps them.
-pub spares-stay-zero : (regs pos regs′ pos′ : List ℕ) → MakesFresh regs pos → SparesKept regs pos regs′ pos′ → spareRegisters regs′ ≡ freshSpareRegisters
+pub spares-stay-zero : (regs pos regs′ pos′ : List ℕ) → MakesFresh regs pos → SparesKept regs pos regs′ pos′
+    → spareRegisters regs′ ≡ freshSpareRegisters
 spares-stay-zero regs pos regs′ pos′ fresh kept = kept .0 ∙ fresh .sparesZero
 
 -- A word's parts: a byte; whether a byte is sent, or the input refused; how often the interrupt is raised.
@@ -29,7 +30,8 @@ read-word o h = (omega arith, omega arith)
 pub silent-word : (o : Out) → o .sent ≡ [] → (writeWord o / 0x2_0000 % 2 ≡ 0) × (writeWord o / 0x100_0000 ≡ o .raises)
 silent-word o e = rw e (omega arith, omega arith)
 
-pub sent-word : (o : Out) (byte : ℕ) → o .sent ≡ byte ∷ [] → byte < 256 → (writeWord o % 256 ≡ byte) × ((writeWord o / 0x2_0000 % 2 ≡ 1) × (writeWord o / 0x100_0000 ≡ o .raises))
+pub sent-word : (o : Out) (byte : ℕ) → o .sent ≡ byte ∷ [] → byte < 256
+    → (writeWord o % 256 ≡ byte) × ((writeWord o / 0x2_0000 % 2 ≡ 1) × (writeWord o / 0x100_0000 ≡ o .raises))
 sent-word o byte e h = rw e (omega arith, (omega arith, omega arith))
 
 pub input-word : (i : Input) → i .taken < 0x1_0000

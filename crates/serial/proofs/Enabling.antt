@@ -21,7 +21,8 @@ pub kept-iir : (regs : List ℕ) (ier : ℕ) {iir : ℕ} → iir ≡ getD regs 2
 kept-iir regs ier e = e ∙ sym (getD-set-other regs 1 2 ier 0 (λ x. omega arith))
 
 pub writes-ier : (regs pos ring : List ℕ) → length regs ≡ 16 → (v w : ℕ) → w ≡ ierStored v → {iir raises r : ℕ} {changes : Bool}
-    → Tells (enabling w (getD regs 2 0) (not (eqb (getD pos 1 0) 0))) (getD regs 2 0) iir raises changes 2 → r ≡ 0x100_0000 * raises
+    → Tells (enabling (getD regs 1 0) w (getD regs 2 0) (not (eqb (getD pos 1 0) 0))) (getD regs 2 0) iir raises changes 2
+    → r ≡ 0x100_0000 * raises
     → Writes (λ q. writeIer q v) regs pos ring (set (set regs 1 w) 2 iir) pos ring r
 unfolding portOf writeIer
 writes-ier regs pos ring n v w s t h =

@@ -3,10 +3,11 @@ use mathlib.Core.Path.{_≡_, refl}
 use mathlib.Core.Bool.{cond}
 use mathlib.Core.List.{List, [], _∷_}
 use Prim.Native.Nat.{ℕ, zero, suc}
-use Rattle.interrupts.specs.Interrupts.{ierStored, mark, unmark, isDue, announce, iirRead}
+use Rattle.interrupts.specs.Interrupts.{ierStored, code, settled}
 use Rattle.line_status.specs.LineStatus.{lsrReady, lsrAfterRead}
 use Rattle.modem.specs.Modem.{isLoop, msrRead}
-use Rattle.serial.specs.Port.{Port, Input, fresh, addressed, readRegister, readOf, receives, writeIer, writeLine, writeRegister, writeOf, inputOf}
+use Rattle.serial.specs.Port.{Port, Input, fresh, addressed, readRegister, readOf, receives, writeIer, writeLine, writeLoop}
+use Rattle.serial.specs.Port.{writeRegister, writeOf, inputOf}
 
 -- read an offset; write a value at an offset; input from the line
 data Access : Type 0 where
@@ -60,9 +61,14 @@ record Worked : Type 0 where
       ≡ sent [] 0 ∷ sent [] 0 ∷ sent [] 1 ∷ sent [] 0 ∷ reply 7 0 ∷ reply 8 0 ∷ reply 0 0 ∷ []
   -- the transmitter is empty as it is enabled; a byte goes out, with one interrupt
   sends : F (w 1 0x02 ∷ r 2 ∷ w 0 0x41 ∷ w 0 0x42 ∷ r 2 ∷ []) ≡ sent [] 1 ∷ reply 0xc2 0 ∷ sent (0x41 ∷ []) 1 ∷ sent (0x42 ∷ []) 0 ∷ reply 0xc2 0 ∷ []
-  -- both are enabled while a byte waits, with two interrupts; then off and on again, with none, since both are marked
-  enabled : F (b (0x61 ∷ []) ∷ w 1 0x03 ∷ w 1 0x00 ∷ w 1 0x03 ∷ r 2 ∷ []) ≡ taken 1 0 ∷ sent [] 2 ∷ sent [] 0 ∷ sent [] 0 ∷ reply 0xc6 0 ∷ []
+  -- both are enabled while a byte waits, with two interrupts; then off and on again, with two more. Received data comes first, and goes
+  -- with the byte
+  enabled :
+      F (b (0x61 ∷ []) ∷ w 1 0x03 ∷ w 1 0x00 ∷ r 2 ∷ w 1 0x03 ∷ r 2 ∷ r 2 ∷ r 0 ∷ r 2 ∷ r 2 ∷ [])
+      ≡ taken 1 0 ∷ sent [] 2 ∷ sent [] 0 ∷ reply 0xc1 0 ∷ sent [] 2 ∷ reply 0xc4 0 ∷ reply 0xc4 0 ∷ reply 0x61 0 ∷ reply 0xc2 0 ∷ reply 0xc1 0 ∷ []
+  -- one of two bytes is read: received data stays pending
+  remembered : F (w 1 0x01 ∷ b (1 ∷ 2 ∷ []) ∷ r 0 ∷ r 2 ∷ b (3 ∷ []) ∷ []) ≡ sent [] 0 ∷ taken 2 1 ∷ reply 1 0 ∷ reply 0xc4 0 ∷ taken 1 0 ∷ []
 
 worked : Worked
-unfolding answersOf answerOf countdown addressed readRegister writeRegister receives writeIer writeLine inputOf ierStored mark unmark isDue announce iirRead lsrReady lsrAfterRead isLoop msrRead
-worked = record { fresh = refl; fetched = refl; filled = refl; looped = refl; divided = refl; returned = refl; sends = refl; enabled = refl }
+unfolding answersOf answerOf countdown addressed readRegister writeRegister receives writeIer writeLine writeLoop inputOf ierStored code settled lsrReady lsrAfterRead isLoop msrRead
+worked = record { fresh = refl; fetched = refl; filled = refl; looped = refl; divided = refl; returned = refl; sends = refl; enabled = refl; remembered = refl }

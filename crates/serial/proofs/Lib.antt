@@ -4,8 +4,11 @@ pub mod Addressing
 pub mod Registers
 pub mod Spares
 pub mod Answering
+pub mod Emptying
 pub mod Reading
 pub mod Receiving
+pub mod Looping
+pub mod Quiet
 pub mod Sending
 pub mod Enabling
 pub mod Bounds

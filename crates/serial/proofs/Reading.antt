@@ -5,18 +5,26 @@ use Prim.Native.Nat.{ℕ, zero, suc, _+_, _-_, _%_, _≤_}
 use native.Mathlib.Omega.{arith}
 use lib.ListN.{length, getD, set}
 use lib.Seq.{getD-set-other, set-getD, drop-set-lt}
-use mathlib.Core.Bool.{Bool, true}
+use mathlib.Core.Bool.{Bool, true, false, not}
+use lib.Dec.{eqb, ltb}
+use borrow.Author.Tests.{lt-ltb, le-ltb}
 use Rattle.common.specs.Lists.{some}
-use Rattle.interrupts.specs.Interrupts.{identification, afterIdentification, afterDataRead}
+use Rattle.interrupts.specs.Interrupts.{isHigh, identification, afterIdentification, afterDataRead}
 use Rattle.line_status.specs.LineStatus.{lsrAfterRead}
-use Rattle.serial.specs.Port.{Port, Register, isOpen, addressed, replies, readRegister, readRbr, readIir, readOf}
+use Rattle.serial.specs.Port.{Port, Register, isOpen, addressed, replies, readRegister, readRbr, readIir, readOf, line}
 use Rattle.ring.specs.Ring.{queue}
 use Rattle.serial.specs.Layout.{places, startOf, countOf, portOf, sparePositions}
 use Rattle.serial.specs.Calls.{Reads}
 use Rattle.serial.specs.Inside.{WaitAfterRead, Taken}
 use Rattle.ring.proofs.Laws.{queue-length, queue-first}
+use Rattle.serial.proofs.Leaves.{waits-is, some-left}
 use Rattle.serial.proofs.Registers.{Stored, one-stored, then-stored, marks, receiver, placed}
 use Rattle.serial.proofs.Answering.{as-it-was, registers-alone, other-count}
+
+-- Bytes are left of k where k is more than 1.
+more-left : (k : ℕ) (left : List ℕ) → (k ≡ 0 → ⊥) → length left ≡ k - 1 → ltb 1 k ≡ some left
+more-left k [] z e = le-ltb 1 k (omega arith)
+more-left k (x ∷ left) z e = lt-ltb 1 k (omega arith)
 
 -- IIR and LSR are stored; the positions move on.
 both-stored : (regs : List ℕ) (iir lsr : ℕ) → Stored regs (set (set regs 2 iir) 5 lsr)
@@ -30,16 +38,19 @@ module _ (regs pos ring : List ℕ) where
   p = portOf regs pos ring
 
   -- A register that a read leaves as it is.
-  pub answers : (offset r : ℕ) {register : Register} {v : ℕ} → addressed (isOpen p) offset ≡ register → readRegister p register ≡ replies p v → r ≡ v
+  pub answers : (offset r : ℕ) {register : Register} {v : ℕ} → addressed (isOpen p) offset ≡ register
+      → readRegister p register ≡ replies p v → r ≡ v
       → Reads (λ q. readOf q offset) regs pos ring regs pos r
   answers offset r a e b = rw (a, e) (as-it-was refl (rw b (omega arith)))
 
   -- The same at the offsets that DLAB does not touch: `refl` says which register lies at n.
-  pub answers-at : (offset r n : ℕ) {v : ℕ} → offset ≡ n → readRegister p (addressed (isOpen p) n) ≡ replies p v → r ≡ v → Reads (λ q. readOf q offset) regs pos ring regs pos r
+  pub answers-at : (offset r n : ℕ) {v : ℕ} → offset ≡ n → readRegister p (addressed (isOpen p) n) ≡ replies p v → r ≡ v
+      → Reads (λ q. readOf q offset) regs pos ring regs pos r
   answers-at offset r n k e b = rw k (answers n r refl e b)
 
   -- LCR, MCR and LSR, each at its offset.
-  pub answers-kept : (offset r : ℕ) → 3 ≤ offset → offset ≤ 5 → r ≡ getD regs offset 0 → Reads (λ q. readOf q offset) regs pos ring regs pos r
+  pub answers-kept : (offset r : ℕ) → 3 ≤ offset → offset ≤ 5 → r ≡ getD regs offset 0
+      → Reads (λ q. readOf q offset) regs pos ring regs pos r
   unfolding portOf addressed readRegister
   answers-kept (suc (suc (suc zero))) r l h b = answers-at 3 r 3 refl refl b
   answers-kept (suc (suc (suc (suc zero)))) r l h b = answers-at 4 r 4 refl refl b
@@ -49,20 +60,31 @@ module _ (regs pos ring : List ℕ) where
   answers-kept (suc zero) r l h b = absurd (omega arith)
   answers-kept zero r l h b = absurd (omega arith)
 
+  -- The line.
+  pub is-line : {r : Bool} → r ≡ isHigh (getD regs 1 0) (getD regs 2 0) (not (eqb (getD pos 1 0) 0)) → r ≡ line p
+  unfolding portOf
+  is-line e = rw (waits-is regs pos ring) e
+
   -- A read of a register by a call of its own.
-  pub hands-on : (offset r : ℕ) {register : Register} {regs′ pos′ : List ℕ} → addressed (isOpen p) offset ≡ register → Reads (λ q. readRegister q register) regs pos ring regs′ pos′ r
+  pub hands-on : (offset r : ℕ) {register : Register} {regs′ pos′ : List ℕ} → addressed (isOpen p) offset ≡ register
+      → Reads (λ q. readRegister q register) regs pos ring regs′ pos′ r
       → Reads (λ q. readOf q offset) regs pos ring regs′ pos′ r
   hands-on offset r a h = rw a h
 
   module _ (n : length regs ≡ 16) where
-    pub identifies : (waits : Bool) {iir r : ℕ} → iir ≡ afterIdentification (getD regs 1 0) (getD regs 2 0) waits → r ≡ identification (getD regs 1 0) (getD regs 2 0) waits
+    abbrev waits : Bool
+    waits = not (eqb (getD pos 1 0) 0)
+
+    pub identifies : {iir r : ℕ} → iir ≡ afterIdentification (getD regs 1 0) (getD regs 2 0) waits
+        → r ≡ identification (getD regs 1 0) (getD regs 2 0) waits
         → Reads readIir regs pos ring (set regs 2 iir) pos r
     unfolding portOf
-    identifies waits e b = rw e (registers-alone n (one-stored regs 2 _ (omega arith)) (marks regs pos ring n _) (rw b (omega arith)))
+    identifies e b = rw (e, waits-is regs pos ring) (registers-alone n (one-stored regs 2 _ (omega arith)) (marks regs pos ring n _) (rw b (omega arith)))
 
-    -- RBR: u is IIR after the read, k bytes wait
-    module _ (u : ℕ) (more : Bool) (w : u ≡ afterDataRead (p .settings .ier) (p .iir) more) (k : ℕ) (c : k ≡ countOf pos) {regs′ : List ℕ} where
-      with-lsr : (m : ℕ) → WaitAfterRead (set regs 2 u) m regs′ → (left : List ℕ) → length left ≡ m → regs′ ≡ set (set regs 2 u) 5 (lsrAfterRead (some left) (p .lsr))
+    -- RBR: k bytes wait, u is IIR after the read
+    module _ (k : ℕ) (c : k ≡ countOf pos) (u : ℕ) (w : u ≡ afterDataRead (p .settings .ier) (p .iir) (ltb 1 k)) {regs′ : List ℕ} where
+      with-lsr : (m : ℕ) → WaitAfterRead (set regs 2 u) m regs′ → (left : List ℕ) → length left ≡ m
+          → regs′ ≡ set (set regs 2 u) 5 (lsrAfterRead (some left) (p .lsr))
       unfolding portOf
       with-lsr m e left l = e left l ∙ rw (getD-set-other regs 2 5 u 0 (λ x. omega arith))
 
@@ -71,9 +93,10 @@ module _ (regs pos ring : List ℕ) where
       reads-none z e =
           let none : countOf pos ≡ 0 = sym c ∙ z in
           rw (with-lsr 0 e [] refl)
-          (registers-alone n (both-stored regs u _) (receiver regs pos ring n u _ pos ring refl ∙ rw (none, w)) (rw none))
+          (registers-alone n (both-stored regs u _) (receiver regs pos ring n u _ pos ring refl ∙ rw (none, w, z)) (rw none))
 
-      pub reads-first : {pos′ : List ℕ} (b : ℕ) → Taken pos ring k pos′ b → (k ≡ 0 → ⊥) → WaitAfterRead (set regs 2 u) (k - 1) regs′ → Reads readRbr regs pos ring regs′ pos′ b
+      pub reads-first : {pos′ : List ℕ} (b : ℕ) → Taken pos ring k pos′ b → (k ≡ 0 → ⊥) → WaitAfterRead (set regs 2 u) (k - 1) regs′
+          → Reads readRbr regs pos ring regs′ pos′ b
       unfolding portOf
       reads-first b t z e =
           let s : ℕ = (startOf pos + 1) % places in
@@ -81,10 +104,19 @@ module _ (regs pos ring : List ℕ) where
           let there = placed pos (k - 1) (t .long) (omega arith) s in
           let lies : queue places ring (startOf pos) (countOf pos) ≡ b ∷ left = rw (sym c, t .byte) (queue-first places ring (startOf pos) k z) in
           let holds = receiver regs pos ring n u (lsrAfterRead (some left) (p .lsr)) (set (set pos 0 s) 1 (k - 1)) ring {waiting = left} (rw (there .0, there .1)) in
-          rw (t .moved, with-lsr (k - 1) e left (queue-length places ring s (k - 1))) (other-count (holds ∙ rw (lies, w)) refl (both-stored regs u _) (moved-spare pos s (k - 1)) (λ same. z (omega (arith, there .1))) (rw lies (omega arith)))
+          rw (t .moved, with-lsr (k - 1) e left (queue-length places ring s (k - 1))) (other-count (holds ∙ rw (lies, w, more-left k left z (queue-length places ring s (k - 1)))) refl (both-stored regs u _) (moved-spare pos s (k - 1)) (λ same. z (omega (arith, there .1))) (rw lies (omega arith)))
 
-    -- RBR where IIR stays
-    pub reads-unmarked : (k b : ℕ) → k ≡ countOf pos → ((ier : ℕ) (more : Bool) → afterDataRead ier (p .iir) more ≡ p .iir) → {regs′ pos′ : List ℕ} → Taken pos ring k pos′ b → (k ≡ 0 → ⊥) → WaitAfterRead regs (k - 1) regs′
-        → Reads readRbr regs pos ring regs′ pos′ b
+    -- RBR where several bytes wait: IIR and LSR stay
+    pub reads-several : (k b : ℕ) → k ≡ countOf pos → 2 ≤ k → {pos′ : List ℕ} → Taken pos ring k pos′ b
+        → Reads readRbr regs pos ring regs pos′ b
     unfolding portOf
-    reads-unmarked k b c u t z e = reads-first (p .iir) true (sym (u (p .settings .ier) true)) k c b t z (rw (set-getD regs 2 0) e)
+    reads-several k b c h t =
+        let several : ltb 1 k ≡ true = lt-ltb 1 k h in
+        reads-first k c (p .iir) (rw several refl) b t (λ z. omega arith) (rw (set-getD regs 2 0) (some-left regs (k - 1) (λ z. omega arith)))
+
+    -- RBR where one byte waits
+    pub reads-last : 1 ≡ countOf pos → {u : ℕ} → u ≡ afterDataRead (p .settings .ier) (p .iir) false → (b : ℕ) {regs′ pos′ : List ℕ}
+        → Taken pos ring 1 pos′ b
+        → WaitAfterRead (set regs 2 u) 0 regs′ → Reads readRbr regs pos ring regs′ pos′ b
+    unfolding portOf
+    reads-last c {u} w b t e = reads-first 1 c u w b t (λ z. omega arith) e

@@ -1,17 +1,19 @@
--- What each answer is in the definition where bytes come to the receiver: from the loop, and from the line.
+-- What each answer is in the definition where bytes come to the receiver.
 use mathlib.Core.Path.{_≡_, refl, sym, ap, _∙_}
-use mathlib.Core.Bool.{true, false}
+use mathlib.Core.Bool.{Bool, true, false}
 use mathlib.Core.List.{List, [], _∷_, _++_}
 use Prim.Native.Nat.{ℕ, _+_, _-_, _*_, _≤_, min}
 use native.Mathlib.Omega.{arith}
-use lib.ListN.{length, set, take}
+use lib.ListN.{length, getD, set, take}
 use lib.Seq.{drop-set-lt}
 use borrow.Author.Tests.{eq-eqb, ne-eqb, lt-ltb, le-ltb}
-use Rattle.serial.specs.Port.{Port, inLoop, hasRoom, roomOf, receives, writeLoop, inputOf}
+use Rattle.interrupts.specs.Interrupts.{dataCame}
+use Rattle.serial.specs.Port.{Port, inLoop, hasRoom, roomOf, receives, inputOf}
 use Rattle.serial.specs.Layout.{size, places, startOf, countOf, portOf, unusedOf, sparePositions}
-use Rattle.serial.specs.Calls.{Answers, Writes, TakesInput, HasRoom}
+use Rattle.serial.specs.Calls.{Answers, TakesInput, HasRoom}
 use Rattle.ring.specs.Ring.{Put}
 use Rattle.serial.specs.Inside.{Received}
+use Rattle.serial.proofs.Leaves.{waits-is}
 use Rattle.serial.proofs.Registers.{Stored, one-stored, then-stored, receiver, counted}
 use Rattle.serial.proofs.Answering.{waiting-length, as-it-was, other-count}
 
@@ -32,11 +34,11 @@ module _ (regs pos ring : List ℕ) (n : ℕ) (c : n ≡ countOf pos) where
   abbrev p : Port
   p = portOf regs pos ring
 
-  full : n ≡ size → hasRoom p ≡ false
+  pub full : n ≡ size → hasRoom p ≡ false
   unfolding portOf
   full e = rw (waiting-length regs pos ring) (le-ltb (countOf pos) size (omega arith))
 
-  not-full : (n ≡ size → ⊥) → hasRoom p ≡ true
+  pub not-full : (n ≡ size → ⊥) → hasRoom p ≡ true
   unfolding portOf
   not-full d = rw (waiting-length regs pos ring) (lt-ltb (countOf pos) size (omega arith))
 
@@ -44,41 +46,28 @@ module _ (regs pos ring : List ℕ) (n : ℕ) (c : n ≡ countOf pos) where
 
   module _ (l : length regs ≡ 16) (m : length pos ≡ 4) (k : ℕ) (h : k ≤ size) {bytes regs′ pos′ ring′ : List ℕ} {raises : ℕ}
       (put : Put places ring (startOf pos) n bytes ring′ k) (got : Received regs pos k regs′ pos′ raises) where
-    there : (startOf (set pos 1 k) ≡ startOf pos) × (countOf (set pos 1 k) ≡ k)
+    pub there : (startOf (set pos 1 k) ≡ startOf pos) × (countOf (set pos 1 k) ≡ k)
     there = counted pos k m h
 
-    came : portOf regs′ pos′ ring′ ≡ receives p bytes .port
+    pub came : portOf regs′ pos′ ring′ ≡ receives p bytes .port
     unfolding portOf receives
-    came = rw (got .marked, got .counted) (receiver regs pos ring l _ _ (set pos 1 k) ring′ {waiting = p .waiting ++ bytes} (rw (there .0, there .1, put .behind, c)))
+    came = rw (got .stored, got .counted, sym (waits-is regs pos ring)) (receiver regs pos ring l _ _ (set pos 1 k) ring′ {waiting = p .waiting ++ bytes} (rw (there .0, there .1, put .behind, c)))
 
-    unused-kept : unusedOf pos′ ring′ ≡ unusedOf pos′ ring
+    pub unused-kept : unusedOf pos′ ring′ ≡ unusedOf pos′ ring
     unused-kept = rw (got .counted, there .0, there .1) (put .rest)
 
-    stored : Stored regs regs′
-    stored = rw (got .marked) (then-stored 5 _ (omega arith) (one-stored regs 2 _ (omega arith)))
+    pub stored : Stored regs regs′
+    stored = rw (got .stored) (then-stored 5 _ (omega arith) (one-stored regs 2 _ (omega arith)))
 
-    moved : sparePositions pos′ ≡ sparePositions pos
+    pub moved : sparePositions pos′ ≡ sparePositions pos
     moved = rw (got .counted) (drop-set-lt 2 pos 1 k (omega arith))
 
     received : (r word : ℕ) → (k ≡ n → ⊥) → r ≡ word → Answers regs pos ring regs′ pos′ ring′ r (receives p bytes .port) word
     received r word d a = other-count came unused-kept stored moved (λ same. d (sym (there .1) ∙ ap countOf (sym (got .counted)) ∙ same ∙ sym c)) a
 
-    raised : raises ≡ receives p bytes .raises
+    pub raised : raises ≡ receives p bytes .raises
     unfolding portOf receives
-    raised = got .raised
-
-  -- ---- From the loop
-
-  pub loop-drops : (v : ℕ) → n ≡ size → Writes (λ q. writeLoop q v) regs pos ring regs pos ring 0
-  loop-drops v e = rw (full e) (as-it-was refl refl)
-
-  pub loop-receives : (l : length regs ≡ 16) (m : length pos ≡ 4) (v : ℕ) {regs′ pos′ ring′ : List ℕ} {raises r : ℕ} → (n ≡ size → ⊥)
-      → Put places ring (startOf pos) n (v ∷ []) ring′ (n + 1) → Received regs pos (n + 1) regs′ pos′ raises → r ≡ 0x100_0000 * raises
-      → Writes (λ q. writeLoop q v) regs pos ring regs′ pos′ ring′ r
-  unfolding receives
-  loop-receives l m v {raises = raises} {r = r} d put got e =
-      let h : n + 1 ≤ size = omega arith in
-      rw (not-full d) (received l m (n + 1) h put got r _ (λ x. omega arith) (rw (e, raised l m (n + 1) h put got) (omega arith)))
+    raised = got .raised ∙ ap (λ (waits : Bool). dataCame (getD regs 1 0) (getD regs 2 0) waits .raises) (sym (waits-is regs pos ring))
 
   -- ---- From the line
 
@@ -96,8 +85,10 @@ module _ (regs pos ring : List ℕ) (n : ℕ) (c : n ≡ countOf pos) where
       unfolding inputOf
       line-full e = rw (o, ne-eqb _ _ z, full e) (as-it-was refl refl)
 
-      pub line-receives : (l : length regs ≡ 16) (m : length pos ≡ 4) (k : ℕ) {regs′ pos′ ring′ : List ℕ} {raises r : ℕ} → (n ≡ size → ⊥) → k ≡ min (size - n) (length input)
-          → Put places ring (startOf pos) n (take k input) ring′ (n + k) → Received regs pos (n + k) regs′ pos′ raises → r ≡ k + 0x100_0000 * raises
+      pub line-receives : (l : length regs ≡ 16) (m : length pos ≡ 4) (k : ℕ) {regs′ pos′ ring′ : List ℕ} {raises r : ℕ} → (n ≡ size → ⊥)
+          → k ≡ min (size - n) (length input)
+          → Put places ring (startOf pos) n (take k input) ring′ (n + k) → Received regs pos (n + k) regs′ pos′ raises
+          → r ≡ k + 0x100_0000 * raises
           → TakesInput (λ q. inputOf q input) regs pos ring regs′ pos′ ring′ r
       unfolding inputOf portOf
       line-receives l m k {raises = raises} {r = r} d f put got e =

@@ -10,7 +10,8 @@ use Rattle.ring.specs.Ring.{queue}
 use Rattle.serial.specs.Layout.{size, places, startOf, countOf, portOf, spareRegisters, sparePositions}
 use Rattle.serial.specs.Calls.{MakesFresh}
 
-nine : (P : List ℕ → Type 0) → ((a b c d e f g h i : ℕ) (l : List ℕ) → P (a ∷ b ∷ c ∷ d ∷ e ∷ f ∷ g ∷ h ∷ i ∷ l)) → (l : List ℕ) → length l ≡ 16 → P l
+nine : (P : List ℕ → Type 0) → ((a b c d e f g h i : ℕ) (l : List ℕ) → P (a ∷ b ∷ c ∷ d ∷ e ∷ f ∷ g ∷ h ∷ i ∷ l)) → (l : List ℕ)
+    → length l ≡ 16 → P l
 nine P t (a ∷ b ∷ c ∷ d ∷ e ∷ f ∷ g ∷ h ∷ i ∷ l) n = t a b c d e f g h i l
 nine P t [] n = absurd (omega arith)
 nine P t (a ∷ []) n = absurd (omega arith)
@@ -61,7 +62,8 @@ bytes-of : (regs pos ring : List ℕ) → length regs ≡ 16 → bytes (portOf r
 unfolding portOf bytes
 bytes-of regs pos ring = nine (λ l. bytes (portOf l pos ring) ++ spareRegisters l ≡ l) (λ a b c d e f g h i l. refl) regs
 
-pub same-registers : (regs pos ring regs′ pos′ ring′ : List ℕ) → length regs ≡ 16 → Stored regs regs′ → portOf regs′ pos′ ring′ ≡ portOf regs pos ring → regs′ ≡ regs
+pub same-registers : (regs pos ring regs′ pos′ ring′ : List ℕ) → length regs ≡ 16 → Stored regs regs′
+    → portOf regs′ pos′ ring′ ≡ portOf regs pos ring → regs′ ≡ regs
 same-registers regs pos ring regs′ pos′ ring′ n s e =
     sym (bytes-of regs′ pos′ ring′ (s .long ∙ n)) ∙ ap₂ _++_ (ap bytes e) (s .spare) ∙ bytes-of regs pos ring n
 
@@ -82,7 +84,8 @@ module _ (regs pos ring : List ℕ) (n : length regs ≡ 16) where
   marks iir = nine (λ l. let q = portOf l pos ring in portOf (set l 2 iir) pos ring ≡ withReceiver q iir (q .lsr) (q .waiting)) (λ a b c d e f g h i l. refl) regs n
 
   -- IER and the marks
-  pub enabled : (ier iir : ℕ) → portOf (set (set regs 1 ier) 2 iir) pos ring ≡ withReceiver (withSettings p (putIer (p .settings) ier)) iir (p .lsr) (p .waiting)
+  pub enabled : (ier iir : ℕ)
+      → portOf (set (set regs 1 ier) 2 iir) pos ring ≡ withReceiver (withSettings p (putIer (p .settings) ier)) iir (p .lsr) (p .waiting)
   unfolding portOf
   enabled ier iir =
       nine (λ l. let q = portOf l pos ring in portOf (set (set l 1 ier) 2 iir) pos ring ≡ withReceiver (withSettings q (putIer (q .settings) ier)) iir (q .lsr) (q .waiting))

@@ -1,17 +1,19 @@
 -- What each answer of a write is in the definition, where no byte comes to the receiver.
 use mathlib.Core.Path.{_≡_, refl, _∙_}
-use mathlib.Core.Bool.{true, false}
+use mathlib.Core.Bool.{true, false, not}
 use mathlib.Core.List.{List, [], _∷_}
 use Prim.Native.Nat.{ℕ, _+_, _*_, _≤_, _<_}
 use native.Mathlib.Omega.{arith}
+use lib.Dec.{eqb}
 use lib.ListN.{length, getD, set}
-use Rattle.interrupts.specs.Interrupts.{byteSent}
-use Rattle.interrupts.specs.Calls.{Tells}
-use mathlib.Core.Bool.{Bool}
-use Rattle.serial.specs.Port.{Port, Settings, Register, RBR-THR, IER, LCR, MCR, SCR, isOpen, inLoop, addressed, withSettings, stores, putLcr, putMcr, putScr, putDll, putDlm, writeIer, writeLine, writeLoop, writeThr, writeRegister, writeOf}
+use Rattle.serial.specs.Port.{Port, Settings, Register, RBR-THR, IER, LCR, MCR, SCR, isOpen, inLoop, addressed, withSettings, stores}
+use Rattle.serial.specs.Port.{putLcr, putMcr, putScr, putDll, putDlm, writeIer, writeLine, writeLoop, writeThr, writeRegister}
+use Rattle.serial.specs.Port.{writeOf}
 use Rattle.serial.specs.Layout.{portOf}
 use Rattle.serial.specs.Calls.{Writes}
-use Rattle.serial.proofs.Registers.{one-stored, setting, marks}
+use Rattle.serial.specs.Inside.{Emptied}
+use Rattle.serial.proofs.Registers.{one-stored, setting}
+use Rattle.serial.proofs.Emptying.{holds-emptied, sent-line}
 use Rattle.serial.proofs.Addressing.{at-dll, at-dlm, unwritten}
 use Rattle.serial.proofs.Answering.{as-it-was, registers-alone}
 
@@ -20,15 +22,17 @@ module _ (regs pos ring : List ℕ) where
   p = portOf regs pos ring
 
   -- A byte goes out.
-  pub line-sends : length regs ≡ 16 → (v : ℕ) {iir raises r : ℕ} {changes : Bool} (waits : Bool) → Tells (byteSent (getD regs 1 0) (getD regs 2 0) waits) (getD regs 2 0) iir raises changes 1 → r ≡ v + 0x2_0000 + 0x100_0000 * raises
-      → Writes (λ q. writeLine q v) regs pos ring (set regs 2 iir) pos ring r
-  unfolding portOf writeLine
-  line-sends n v waits a e =
-      rw (a .stored) (registers-alone n (one-stored regs 2 _ (omega arith)) (marks regs pos ring n _) (rw (e, a .raised)))
+  pub sends : length regs ≡ 16 → (v : ℕ) {regs′ : List ℕ} {raises r : ℕ} → inLoop p ≡ false
+      → Emptied regs (not (eqb (getD pos 1 0) 0)) regs′ raises
+      → r ≡ v + 0x2_0000 + 0x100_0000 * raises → Writes (λ q. writeThr q v) regs pos ring regs′ pos ring r
+  unfolding writeLine
+  sends n v o a e =
+      rw (o, a .stored) (registers-alone n (one-stored regs 2 _ (omega arith)) (holds-emptied regs pos ring n) (rw (e, a .raised) (sent-line regs pos ring v)))
 
   -- A setting is stored at place k: the first `refl` says which register it is, the second that it lies there.
   module _ (n : length regs ≡ 16) (offset v : ℕ) where
-    stored : (k : ℕ) → k < 9 → (put : Settings → ℕ → Settings) {register : Register} → addressed (isOpen p) offset ≡ register → writeRegister p register v ≡ stores p (put (p .settings) v)
+    stored : (k : ℕ) → k < 9 → (put : Settings → ℕ → Settings) {register : Register} → addressed (isOpen p) offset ≡ register
+        → writeRegister p register v ≡ stores p (put (p .settings) v)
         → ((a b c d e f g h i : ℕ) (rest : List ℕ) → let l = a ∷ b ∷ c ∷ d ∷ e ∷ f ∷ g ∷ h ∷ i ∷ rest in portOf (set l k v) pos ring ≡ withSettings (portOf l pos ring) (put (portOf l pos ring .settings) v))
         → Writes (λ q. writeOf q offset v) regs pos ring (set regs k v) pos ring 0
     stored k h put a e t = rw (a, e) (registers-alone n (one-stored regs k v h) (setting regs pos ring n k put v t) refl)
@@ -56,25 +60,24 @@ module _ (regs pos ring : List ℕ) where
     unfolding portOf writeRegister addressed
     stores-scr e = stored 7 (omega arith) putScr {register = SCR} (rw e) refl (λ a b c d e f g h i l. refl)
 
-  pub stores-nothing : (offset v : ℕ) → 2 ≤ offset → (offset ≡ 3 → ⊥) → (offset ≡ 4 → ⊥) → (offset ≡ 7 → ⊥) → Writes (λ q. writeOf q offset v) regs pos ring regs pos ring 0
+  pub stores-nothing : (offset v : ℕ) → 2 ≤ offset → (offset ≡ 3 → ⊥) → (offset ≡ 4 → ⊥) → (offset ≡ 7 → ⊥)
+      → Writes (λ q. writeOf q offset v) regs pos ring regs pos ring 0
   stores-nothing offset v h a b c = rw (unwritten (isOpen p) offset p v h a b c) (as-it-was refl refl)
 
-  -- THR in the loop, and on the line.
+  -- THR in the loop, by a call of its own.
   pub loops : (v r : ℕ) {regs′ pos′ ring′ : List ℕ} → inLoop p ≡ true → Writes (λ q. writeLoop q v) regs pos ring regs′ pos′ ring′ r
       → Writes (λ q. writeThr q v) regs pos ring regs′ pos′ ring′ r
   loops v r o h = rw o h
 
-  pub sends : (v r : ℕ) {regs′ pos′ ring′ : List ℕ} → inLoop p ≡ false → Writes (λ q. writeLine q v) regs pos ring regs′ pos′ ring′ r
-      → Writes (λ q. writeThr q v) regs pos ring regs′ pos′ ring′ r
-  sends v r o h = rw o h
-
   -- THR and IER, by calls of their own.
-  pub transmits : (offset v r : ℕ) {regs′ pos′ ring′ : List ℕ} → addressed (isOpen p) offset ≡ RBR-THR → Writes (λ q. writeThr q v) regs pos ring regs′ pos′ ring′ r
+  pub transmits : (offset v r : ℕ) {regs′ pos′ ring′ : List ℕ} → addressed (isOpen p) offset ≡ RBR-THR
+      → Writes (λ q. writeThr q v) regs pos ring regs′ pos′ ring′ r
       → Writes (λ q. writeOf q offset v) regs pos ring regs′ pos′ ring′ r
   unfolding writeRegister
   transmits offset v r a h = rw a h
 
-  pub enables : (offset v r : ℕ) {regs′ pos′ ring′ : List ℕ} → addressed (isOpen p) offset ≡ IER → Writes (λ q. writeIer q v) regs pos ring regs′ pos′ ring′ r
+  pub enables : (offset v r : ℕ) {regs′ pos′ ring′ : List ℕ} → addressed (isOpen p) offset ≡ IER
+      → Writes (λ q. writeIer q v) regs pos ring regs′ pos′ ring′ r
       → Writes (λ q. writeOf q offset v) regs pos ring regs′ pos′ ring′ r
   unfolding writeRegister
   enables offset v r a h = rw a h

@@ -43,10 +43,12 @@ module _ (regs : List ℕ) where
     λ _. refl,
   )
 
-  pub one-other : (i : ℕ) → i < 16 → ZeroUpTo regs i → (getD regs i 0 ≡ 0 → ⊥) → (false ≡ true) ↔ (spareRegisters regs ≡ freshSpareRegisters)
+  pub one-other : (i : ℕ) → i < 16 → ZeroUpTo regs i → (getD regs i 0 ≡ 0 → ⊥)
+      → (false ≡ true) ↔ (spareRegisters regs ≡ freshSpareRegisters)
   one-other i h z d = (λ e. absurd (false≢true e), λ e. absurd (d (at-i e)))
     where
       at-i : spareRegisters regs ≡ freshSpareRegisters → getD regs i 0 ≡ 0
       at-i e =
           let k : 9 + (i - 9) ≡ i = omega (arith, z .from) in
-          ap (λ (j : ℕ). getD regs j 0) (sym k) ∙ sym (getD-drop 9 regs (i - 9) 0) ∙ ap (λ (l : List ℕ). getD l (i - 9) 0) e ∙ fresh-at (i - 9)
+          ap (λ (j : ℕ). getD regs j 0) (sym k) ∙ sym (getD-drop 9 regs (i - 9) 0) ∙ ap (λ (l : List ℕ). getD l (i - 9) 0) e
+          ∙ fresh-at (i - 9)

@@ -2,14 +2,14 @@
 use Prim.Native.Nat.{ℕ, _+_, _*_}
 use mathlib.Core.Path.{_≡_}
 use mathlib.Core.List.{List, [], _∷_}
-use mathlib.Core.Bool.{cond}
-use Rattle.serial.specs.Port.{Port, Out, Input, fresh, roomOf}
+use mathlib.Core.Bool.{Bool, cond}
+use Rattle.serial.specs.Port.{Port, Out, Input, fresh, roomOf, line}
 use Rattle.serial.specs.Layout.{size, portOf, unusedOf, spareRegisters, sparePositions, freshSpareRegisters, freshSparePositions}
 
 -- ---- The words: one layout for all calls
 
--- The low 16 bits are a number: the reply, the byte sent, how many bytes are taken. Then one bit each: refused, a byte is sent, reachable (a
--- restore's); the bits behind them up to 0x80_0000 are spare. From 0x100_0000 on stands how often the interrupt is raised.
+-- The low 16 bits are a number: the reply, the byte sent, how many bytes are taken. Then one bit each: refused, a byte is sent, reachable
+-- (a restore's); the bits behind them up to 0x80_0000 are spare. From 0x100_0000 on stands how often the interrupt is raised.
 abbrev pub refusedBit : ℕ
 refusedBit = 0x1_0000
 
@@ -44,7 +44,8 @@ abbrev pub SparesKept : List ℕ → List ℕ → List ℕ → List ℕ → Type
 SparesKept regs pos regs′ pos′ = (spareRegisters regs′ ≡ spareRegisters regs) × (sparePositions pos′ ≡ sparePositions pos)
 
 -- The call answers the word, and the memory holds the port. The bytes of the ring that do not wait are as they were, and so are the spare
--- registers and positions. Where the port stays what it was (an input refused, a byte dropped, a register read) not a byte of the memory changes.
+-- registers and positions. Where the port stays what it was (an input refused, a byte dropped, a register read) not a byte of the memory
+-- changes.
 pub record Answers (regs pos ring regs′ pos′ ring′ : List ℕ) (r : ℕ) (port : Port) (word : ℕ) : Type 0 where
   pub answer : r ≡ word
   pub holds : portOf regs′ pos′ ring′ ≡ port
@@ -54,13 +55,16 @@ pub record Answers (regs pos ring regs′ pos′ ring′ : List ℕ) (r : ℕ) (
 
 -- A call is an access of the definition. A read is not lent the ring to change it.
 abbrev pub Reads : (Port → Out) → List ℕ → List ℕ → List ℕ → List ℕ → List ℕ → ℕ → Type 0
-Reads access regs pos ring regs′ pos′ r = let o = access (portOf regs pos ring) in Answers regs pos ring regs′ pos′ ring r (o .port) (readWord o)
+Reads access regs pos ring regs′ pos′ r =
+    let o = access (portOf regs pos ring) in Answers regs pos ring regs′ pos′ ring r (o .port) (readWord o)
 
 abbrev pub Writes : (Port → Out) → List ℕ → List ℕ → List ℕ → List ℕ → List ℕ → List ℕ → ℕ → Type 0
-Writes access regs pos ring regs′ pos′ ring′ r = let o = access (portOf regs pos ring) in Answers regs pos ring regs′ pos′ ring′ r (o .port) (writeWord o)
+Writes access regs pos ring regs′ pos′ ring′ r =
+    let o = access (portOf regs pos ring) in Answers regs pos ring regs′ pos′ ring′ r (o .port) (writeWord o)
 
 abbrev pub TakesInput : (Port → Input) → List ℕ → List ℕ → List ℕ → List ℕ → List ℕ → List ℕ → ℕ → Type 0
-TakesInput access regs pos ring regs′ pos′ ring′ r = let i = access (portOf regs pos ring) in Answers regs pos ring regs′ pos′ ring′ r (i .port) (inputWord i)
+TakesInput access regs pos ring regs′ pos′ ring′ r =
+    let i = access (portOf regs pos ring) in Answers regs pos ring regs′ pos′ ring′ r (i .port) (inputWord i)
 
 -- A fresh port, whatever the ring holds; it starts at the ring's first place. What is spare is 0.
 pub record MakesFresh (regs′ pos′ : List ℕ) : Type 0 where
@@ -71,3 +75,7 @@ pub record MakesFresh (regs′ pos′ : List ℕ) : Type 0 where
 -- The room left, whatever the registers and the ring hold.
 abbrev pub HasRoom : List ℕ → ℕ → Type 0
 HasRoom pos r = (regs ring : List ℕ) → r ≡ roomOf (portOf regs pos ring)
+
+-- Whether the interrupt line is high, whatever the ring holds.
+abbrev pub IsHigh : List ℕ → List ℕ → Bool → Type 0
+IsHigh regs pos r = (ring : List ℕ) → r ≡ line (portOf regs pos ring)

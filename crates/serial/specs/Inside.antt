@@ -3,18 +3,27 @@ use Prim.Native.Nat.{ℕ, _+_, _-_, _%_, _≤_}
 use mathlib.Core.Path.{_≡_}
 use mathlib.Core.List.{List}
 use lib.ListN.{length, getD, set}
-use mathlib.Core.Bool.{not}
+use mathlib.Core.Bool.{Bool, not}
 use lib.Dec.{eqb}
 use Rattle.common.specs.Lists.{some}
-use Rattle.interrupts.specs.Interrupts.{dataCame}
+use Rattle.interrupts.specs.Interrupts.{Ended, dataCame, byteSent}
 use Rattle.line_status.specs.LineStatus.{lsrReady, lsrAfterRead}
 use Rattle.serial.specs.Layout.{places, startOf}
 
 -- Bytes have come to the receiver, n wait: LSR lies at 5, the number of waiting bytes at 1 of the positions.
+abbrev pub cameIn : List ℕ → List ℕ → Ended
+cameIn regs pos = dataCame (getD regs 1 0) (getD regs 2 0) (not (eqb (getD pos 1 0) 0))
+
 pub record Received (regs pos : List ℕ) (n : ℕ) (regs′ pos′ : List ℕ) (r : ℕ) : Type 0 where
-  pub marked : regs′ ≡ set (set regs 2 (dataCame (getD regs 1 0) (getD regs 2 0) (not (eqb (getD pos 1 0) 0)) .iir)) 5 (lsrReady (getD regs 5 0))
+  pub stored : regs′ ≡ set (set regs 2 (cameIn regs pos .iir)) 5 (lsrReady (getD regs 5 0))
   pub counted : pos′ ≡ set pos 1 n
-  pub raised : r ≡ dataCame (getD regs 1 0) (getD regs 2 0) (not (eqb (getD pos 1 0) 0)) .raises
+  pub raised : r ≡ cameIn regs pos .raises
+  pub once : r ≤ 1
+
+-- The transmitter is empty: IER lies at 1, IIR at 2.
+pub record Emptied (regs : List ℕ) (waits : Bool) (regs′ : List ℕ) (r : ℕ) : Type 0 where
+  pub stored : regs′ ≡ set regs 2 (byteSent (getD regs 1 0) (getD regs 2 0) waits .iir)
+  pub raised : r ≡ byteSent (getD regs 1 0) (getD regs 2 0) waits .raises
   pub once : r ≤ 1
 
 -- A byte has been read and n wait.

@@ -6,7 +6,8 @@ use lib.ListN.{length, take}
 use lib.Dec.{ltb, eqb}
 use Rattle.common.specs.Bits.{on}
 use Rattle.common.specs.Lists.{some, firstOr0}
-use Rattle.interrupts.specs.Interrupts.{ierStored, nonePending, identification, afterIdentification, afterDataRead, dataCame, byteSent, enabling}
+use Rattle.interrupts.specs.Interrupts.{Kind, Ended, ierStored, nonePending, isActive, isHigh}
+use Rattle.interrupts.specs.Interrupts.{identification, afterIdentification, afterDataRead, dataCame, byteSent, enabling}
 use Rattle.line_status.specs.LineStatus.{lsrReady, lsrAfterRead}
 use Rattle.modem.specs.Modem.{isLoop, msrRead}
 
@@ -31,8 +32,8 @@ addressed dlab offset =
 
 -- ---- State
 
--- What the guest wrote last, in the registers that keep it. Word length, parity, break and the divisor have no effect on the bytes: DIFFERENCES,
--- "serial-word-length" and "serial-line-settings".
+-- What the guest wrote last, in the registers that keep it. Word length, parity, break and the divisor have no effect on the bytes:
+-- DIFFERENCES, "serial-word-length" and "serial-line-settings".
 pub record Settings : Type 0 where
   pub ier : ℕ
   pub lcr : ℕ
@@ -41,7 +42,8 @@ pub record Settings : Type 0 where
   pub dll : ℕ
   pub dlm : ℕ
 
--- waiting: the receiver's bytes, the first to be read first; size: how many may wait. The manual's FIFO has 16: DIFFERENCES, "serial-line-overrun".
+-- waiting: the receiver's bytes, the first to be read first; size: how many may wait. The manual's FIFO has 16: DIFFERENCES,
+-- "serial-line-overrun".
 pub record Port : Type 0 where
   pub settings : Settings
   pub iir : ℕ
@@ -67,7 +69,14 @@ fresh size = record {
   size = size;
 }
 
--- The port with other settings; with other marks, line status and waiting bytes.
+-- A kind of interrupt is active; the interrupt line is high.
+abbrev pub active : Port → Kind → Bool
+active p kind = isActive (p .settings .ier) (p .iir) (some (p .waiting)) kind
+
+abbrev pub line : Port → Bool
+line p = isHigh (p .settings .ier) (p .iir) (some (p .waiting))
+
+-- The port with other settings; with another IIR, line status and waiting bytes.
 abbrev pub withSettings : Port → Settings → Port
 withSettings p s = record { settings = s; iir = p .iir; lsr = p .lsr; msr = p .msr; waiting = p .waiting; size = p .size }
 
@@ -94,9 +103,10 @@ becomes p = replies p 0
 abbrev pub readRbr : Port → Out
 readRbr p =
     let left = tail (p .waiting) in
-    replies (withReceiver p (afterDataRead (p .settings .ier) (p .iir) (some left)) (lsrAfterRead (some left) (p .lsr)) left) (firstOr0 (p .waiting))
+    let iir = afterDataRead (p .settings .ier) (p .iir) (some left) in
+    replies (withReceiver p iir (lsrAfterRead (some left) (p .lsr)) left) (firstOr0 (p .waiting))
 
--- Bytes come to the receiver: they wait behind the others, data is ready, received data is announced.
+-- Bytes come to the receiver: they wait behind the others, data is ready, received data is pending.
 unfoldable pub receives : Port → List ℕ → Out
 receives p bytes =
     let a = dataCame (p .settings .ier) (p .iir) (some (p .waiting)) in
@@ -105,16 +115,22 @@ receives p bytes =
 abbrev pub hasRoom : Port → Bool
 hasRoom p = ltb (length (p .waiting)) (p .size)
 
--- THR in the loop: the byte comes to the receiver. Where that is full the byte is lost with no word: DIFFERENCES, "serial-loop-overrun".
--- An empty transmitter is not announced: DIFFERENCES, "serial-loop-transmitter".
-abbrev pub writeLoop : Port → ℕ → Out
-writeLoop p value = cond (hasRoom p) (receives p (value ∷ [])) (becomes p)
+-- THR is written: the byte has left at once, and the transmitter is empty, whether or not the host delivers the byte.
+abbrev pub transmits : Port → Ended
+transmits p = byteSent (p .settings .ier) (p .iir) (some (p .waiting))
 
--- THR on the line: the byte is sent and has left at once; the empty transmitter is announced, whether or not the host delivers the byte.
+abbrev pub emptied : Port → Port
+emptied p = withReceiver p (transmits p .iir) (p .lsr) (p .waiting)
+
+-- On the line the byte is sent.
 unfoldable pub writeLine : Port → ℕ → Out
-writeLine p value =
-    let a = byteSent (p .settings .ier) (p .iir) (some (p .waiting)) in
-    record { port = withReceiver p (a .iir) (p .lsr) (p .waiting); reply = 0; sent = value ∷ []; raises = a .raises }
+writeLine p value = record { port = emptied p; reply = 0; sent = value ∷ []; raises = transmits p .raises }
+
+-- In the loop it comes to the receiver. Where that is full the byte is lost with no word: DIFFERENCES, "serial-loop-overrun".
+unfoldable pub writeLoop : Port → ℕ → Out
+writeLoop p value =
+    let o = cond (hasRoom p) (receives (emptied p) (value ∷ [])) (becomes (emptied p)) in
+    record { port = o .port; reply = 0; sent = []; raises = transmits p .raises + o .raises }
 
 abbrev pub writeThr : Port → ℕ → Out
 writeThr p value = cond (inLoop p) (writeLoop p value) (writeLine p value)
@@ -145,16 +161,16 @@ stores p s = becomes (withSettings p s)
 
 -- ---- IER
 
--- IER: the value is stored, and under it what there is to announce is announced.
+-- IER: the value is stored, and what it enables is active from now on.
 unfoldable pub writeIer : Port → ℕ → Out
 writeIer p value =
     let s = putIer (p .settings) (ierStored value) in
-    let a = enabling (s .ier) (p .iir) (some (p .waiting)) in
+    let a = enabling (p .settings .ier) (s .ier) (p .iir) (some (p .waiting)) in
     record { port = withReceiver (withSettings p s) (a .iir) (p .lsr) (p .waiting); reply = 0; sent = []; raises = a .raises }
 
 -- ---- IIR
 
--- What is pending.
+-- What is active.
 abbrev pub readIir : Port → Out
 readIir p =
     let ier = p .settings .ier in
@@ -167,8 +183,8 @@ pub record Rule : Type 0 where
   pub read : Out
   pub write : ℕ → Out
 
--- FCR: nothing happens: DIFFERENCES, "serial-fifo-off", "serial-fifo-empty" and "serial-trigger-level". LSR, MSR and the reserved offsets are not
--- written: DIFFERENCES, "serial-read-only" and "serial-beyond".
+-- FCR: nothing happens: DIFFERENCES, "serial-fifo-off", "serial-fifo-empty" and "serial-trigger-level". LSR, MSR and the reserved offsets
+-- are not written: DIFFERENCES, "serial-read-only" and "serial-beyond".
 abbrev pub rule : Port → Register → Rule
 rule p RBR-THR = record { read = readRbr p; write = writeThr p }
 rule p IER = record { read = replies p (p .settings .ier); write = writeIer p }

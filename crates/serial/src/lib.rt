@@ -29,7 +29,7 @@ ghost use mathlib.Core.Bool.{true, false};
 ghost use Prim.Native.Nat.{_≤_};
 ghost use Rattle.common.specs.Bits.{on};
 ghost use Rattle.serial.specs.Port.{readOf, writeOf, inputOf};
-ghost use Rattle.serial.specs.Calls.{Reads, Writes, TakesInput, MakesFresh, HasRoom};
+ghost use Rattle.serial.specs.Calls.{Reads, Writes, TakesInput, MakesFresh, HasRoom, IsHigh};
 
 // A fresh port; its ring may hold anything.
 pub fn init(regs: &mut Regs, pos: &mut Pos)
@@ -79,7 +79,8 @@ fn is_status_or_control(offset: u8) -> bool
 
 // The guest reads at `offset`: the reply, and the raises.
 pub fn read(regs: &mut Regs, pos: &mut Pos, ring: &Ring, offset: u8) -> u32
-    ensures { λ r. ⌜ Reads (λ p. readOf p offset) (now (regs .entry)) (now (pos .entry)) (now (ring .entry)) (now (regs .exit)) (now (pos .exit)) r ⌝ }
+    ensures { λ r. ⌜ Reads (λ p. readOf p offset) (now (regs .entry)) (now (pos .entry)) (now (ring .entry))
+        (now (regs .exit)) (now (pos .exit)) r ⌝ }
 {
     if offset == 0 {
         if is_open(regs[LCR]) {
@@ -114,7 +115,8 @@ pub fn read(regs: &mut Regs, pos: &mut Pos, ring: &Ring, offset: u8) -> u32
 
 // The guest writes `value` at `offset`: the byte to send, where there is one, and the raises.
 pub fn write(regs: &mut Regs, pos: &mut Pos, ring: &mut Ring, offset: u8, value: u8) -> u32
-    ensures { λ r. ⌜ Writes (λ p. writeOf p offset value) (now (regs .entry)) (now (pos .entry)) (now (ring .entry)) (now (regs .exit)) (now (pos .exit)) (now (ring .exit)) r ⌝ }
+    ensures { λ r. ⌜ Writes (λ p. writeOf p offset value) (now (regs .entry)) (now (pos .entry)) (now (ring .entry))
+        (now (regs .exit)) (now (pos .exit)) (now (ring .exit)) r ⌝ }
 {
     memory::regs_len(regs);
     if offset < 2 {
@@ -152,7 +154,8 @@ pub fn write(regs: &mut Regs, pos: &mut Pos, ring: &mut Ring, offset: u8, value:
 
 // Bytes from the host's side of the line: how many were taken, or that the port is full, and the raises.
 pub fn input(regs: &mut Regs, pos: &mut Pos, ring: &mut Ring, input: &[u8]) -> u32
-    ensures { λ r. ⌜ TakesInput (λ p. inputOf p (now (input .entry))) (now (regs .entry)) (now (pos .entry)) (now (ring .entry)) (now (regs .exit)) (now (pos .exit)) (now (ring .exit)) r ⌝ }
+    ensures { λ r. ⌜ TakesInput (λ p. inputOf p (now (input .entry))) (now (regs .entry)) (now (pos .entry)) (now (ring .entry))
+        (now (regs .exit)) (now (pos .exit)) (now (ring .exit)) r ⌝ }
 {
     if modem::is_loop(regs[MCR]) {
         return 0;
@@ -178,4 +181,11 @@ pub fn room(pos: &Pos) -> u32
     ensures { λ r. ⌜ HasRoom (now (pos .entry)) r ⌝ }
 {
     memory::SIZE - waiting::count(pos)
+}
+
+// Whether the interrupt line is high now.
+pub fn line(regs: &Regs, pos: &Pos) -> bool
+    ensures { λ r. ⌜ IsHigh (now (regs .entry)) (now (pos .entry)) r ⌝ }
+{
+    iir::is_high(regs, pos)
 }

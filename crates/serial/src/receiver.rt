@@ -1,5 +1,4 @@
 // The receiver: bytes come, wait in the ring, and are read.
-use crate::answer::ONE_RAISE;
 use crate::iir;
 use crate::memory;
 use crate::memory::COUNT;
@@ -9,10 +8,11 @@ use crate::memory::LSR;
 use crate::memory::Pos;
 use crate::memory::Regs;
 use crate::memory::Ring;
-use crate::memory::START;
 use crate::waiting;
-ghost use Rattle.serial.specs.Port.{readRbr, writeLoop};
-ghost use Rattle.serial.specs.Calls.{Reads, Writes};
+ghost use lib.ListN.{getD};
+ghost use Rattle.interrupts.specs.Calls.{Quiet};
+ghost use Rattle.serial.specs.Port.{readRbr};
+ghost use Rattle.serial.specs.Calls.{Reads};
 ghost use Rattle.serial.specs.Inside.{Received, WaitAfterRead};
 
 // LSR once a byte has been read and `left` wait.
@@ -26,28 +26,28 @@ fn lsr_after_read(regs: &mut Regs, left: u32)
 }
 
 // RBR: the first byte leaves. What is usual comes first, since a guest fetches its input byte by byte:
-// IIR stays, and more bytes wait, or none does.
+// this is the last, or more bytes wait and nothing else changes.
 pub fn read_rbr(regs: &mut Regs, pos: &mut Pos, ring: &Ring) -> u32
-    ensures { λ r. ⌜ Reads readRbr (now (regs .entry)) (now (pos .entry)) (now (ring .entry)) (now (regs .exit)) (now (pos .exit)) r ⌝ }
+    ensures { λ r. ⌜ Reads readRbr (now (regs .entry)) (now (pos .entry)) (now (ring .entry))
+        (now (regs .exit)) (now (pos .exit)) r ⌝ }
 {
     let n = pos[COUNT];
-    if interrupts::stays_at_data_read(regs[IIR]) {
-        memory::regs_len(regs);
-        if waiting::several(n) {
-            return memory::wide(waiting::take(pos, ring, n));
-        }
-        if n == 1 {
-            lsr_after_read(regs, 0);
-            return memory::wide(waiting::take(pos, ring, n));
-        }
-        return read_any_rbr(regs, pos, ring);
+    memory::regs_len(regs);
+    if n == 1 {
+        regs[IIR] = interrupts::after_data_read(regs[IER], regs[IIR], false);
+        lsr_after_read(regs, 0);
+        return memory::wide(waiting::take(pos, ring, 1));
+    }
+    if waiting::several(n) {
+        return memory::wide(waiting::take(pos, ring, n));
     }
     read_any_rbr(regs, pos, ring)
 }
 
-// The same, whatever is marked and however many bytes wait.
+// The same, however many bytes wait.
 fn read_any_rbr(regs: &mut Regs, pos: &mut Pos, ring: &Ring) -> u32
-    ensures { λ r. ⌜ Reads readRbr (now (regs .entry)) (now (pos .entry)) (now (ring .entry)) (now (regs .exit)) (now (pos .exit)) r ⌝ }
+    ensures { λ r. ⌜ Reads readRbr (now (regs .entry)) (now (pos .entry)) (now (ring .entry))
+        (now (regs .exit)) (now (pos .exit)) r ⌝ }
 {
     memory::regs_len(regs);
     let n = waiting::count(pos);
@@ -60,8 +60,8 @@ fn read_any_rbr(regs: &mut Regs, pos: &mut Pos, ring: &Ring) -> u32
     memory::wide(waiting::take(pos, ring, n))
 }
 
-// The bytes put into the ring wait from now on, `n` in all: data is ready, received data is
-// announced. The answer: how often the interrupt is to be raised.
+// The bytes put into the ring wait from now on, `n` in all: data is ready, received data is pending.
+// The answer: how often the interrupt is to be raised.
 pub fn receive(regs: &mut Regs, pos: &mut Pos, n: u32) -> u32
     ensures { λ r. ⌜ Received (now (regs .entry)) (now (pos .entry)) n (now (regs .exit)) (now (pos .exit)) r ⌝ }
 {
@@ -77,16 +77,15 @@ pub fn receive(regs: &mut Regs, pos: &mut Pos, n: u32) -> u32
     told.raises
 }
 
-// THR in the loop: the byte comes back, or is lost where the receiver is full.
-pub fn write_loop(regs: &mut Regs, pos: &mut Pos, ring: &mut Ring, value: u8) -> u32
-    ensures { λ r. ⌜ Writes (λ p. writeLoop p value) (now (regs .entry)) (now (pos .entry)) (now (ring .entry)) (now (regs .exit)) (now (pos .exit)) (now (ring .exit)) r ⌝ }
+// The same where no kind of interrupt is enabled, as while a driver polls: nothing is raised.
+pub fn receive_quietly(regs: &mut Regs, pos: &mut Pos, n: u32)
+    requires { ⌜ Quiet (getD (now regs) 1 0) ⌝ }
+    ensures { λ r. ⌜ Received (now (regs .entry)) (now (pos .entry)) n (now (regs .exit)) (now (pos .exit)) 0 ⌝ }
 {
-    let n = waiting::count(pos);
-    if n == memory::SIZE {
-        return 0;
-    }
     memory::regs_len(regs);
     memory::pos_len(pos);
-    ring::push(ring, pos[START], n, value);
-    ONE_RAISE * receive(regs, pos, n + 1)
+    let lsr = regs[LSR];
+    iir::none_if_first(regs, pos[COUNT] != 0);
+    pos[COUNT] = n;
+    regs[LSR] = line_status::ready(lsr);
 }

@@ -10,29 +10,72 @@ use crate::memory::MCR;
 use crate::memory::Pos;
 use crate::memory::Regs;
 use crate::memory::Ring;
+use crate::memory::START;
 use crate::receiver;
-ghost use mathlib.Core.List.{List};
-ghost use Prim.Native.Nat.{ℕ};
-ghost use Rattle.serial.specs.Port.{writeLine, writeThr};
+use crate::waiting;
+ghost use lib.ListN.{getD};
+ghost use Rattle.interrupts.specs.Calls.{Quiet};
+ghost use Rattle.serial.specs.Port.{writeLoop, writeThr};
 ghost use Rattle.serial.specs.Calls.{Writes};
+ghost use Rattle.serial.specs.Inside.{Emptied};
 
 // THR: in the loop the byte comes back, on the line it is sent.
 pub fn write_thr(regs: &mut Regs, pos: &mut Pos, ring: &mut Ring, value: u8) -> u32
-    ensures { λ r. ⌜ Writes (λ p. writeThr p value) (now (regs .entry)) (now (pos .entry)) (now (ring .entry)) (now (regs .exit)) (now (pos .exit)) (now (ring .exit)) r ⌝ }
+    ensures { λ r. ⌜ Writes (λ p. writeThr p value) (now (regs .entry)) (now (pos .entry)) (now (ring .entry))
+        (now (regs .exit)) (now (pos .exit)) (now (ring .exit)) r ⌝ }
 {
     if modem::is_loop(regs[MCR]) {
-        return receiver::write_loop(regs, pos, ring, value);
+        return write_loop(regs, pos, ring, value);
     }
-    write_line(regs, pos[COUNT] != 0, value)
+    memory::regs_len(regs);
+    let raises = emptied(regs, pos[COUNT] != 0);
+    memory::wide(value) + SENT + ONE_RAISE * raises
 }
 
-// THR on the line: the byte to send, and the interrupts to raise. `waits` says whether a byte waits.
-fn write_line(regs: &mut Regs, waits: bool, value: u8) -> u32
-    ensures { λ r. ⌜ ((pos ring : List ℕ) → Writes (λ p. writeLine p value) (now (regs .entry)) pos ring (now (regs .exit)) pos ring r) ⌝ }
+// THR in the loop: the byte comes to the receiver, or is lost where that is full.
+fn write_loop(regs: &mut Regs, pos: &mut Pos, ring: &mut Ring, value: u8) -> u32
+    ensures { λ r. ⌜ Writes (λ p. writeLoop p value) (now (regs .entry)) (now (pos .entry)) (now (ring .entry))
+        (now (regs .exit)) (now (pos .exit)) (now (ring .exit)) r ⌝ }
+{
+    if interrupts::is_quiet(regs[IER]) {
+        return loop_quietly(regs, pos, ring, value);
+    }
+    memory::regs_len(regs);
+    memory::pos_len(pos);
+    let n = waiting::count(pos);
+    let raises = emptied(regs, pos[COUNT] != 0);
+    if n == memory::SIZE {
+        return ONE_RAISE * raises;
+    }
+    ring::push(ring, pos[START], n, value);
+    ONE_RAISE * (raises + receiver::receive(regs, pos, n + 1))
+}
+
+// The same where no kind of interrupt is enabled, as while a driver tests the port or polls.
+fn loop_quietly(regs: &mut Regs, pos: &mut Pos, ring: &mut Ring, value: u8) -> u32
+    requires { ⌜ Quiet (getD (now regs) 1 0) ⌝ }
+    ensures { λ r. ⌜ Writes (λ p. writeLoop p value) (now (regs .entry)) (now (pos .entry)) (now (ring .entry))
+        (now (regs .exit)) (now (pos .exit)) (now (ring .exit)) r ⌝ }
+{
+    memory::regs_len(regs);
+    memory::pos_len(pos);
+    let n = waiting::count(pos);
+    if n == memory::SIZE {
+        return 0;
+    }
+    ring::push(ring, pos[START], n, value);
+    receiver::receive_quietly(regs, pos, n + 1);
+    0
+}
+
+// The transmitter is empty. The answer: how often the interrupt is to be raised. `waits` says whether a
+// byte waits.
+fn emptied(regs: &mut Regs, waits: bool) -> u32
+    ensures { λ r. ⌜ Emptied (now (regs .entry)) waits (now (regs .exit)) r ⌝ }
 {
     memory::regs_len(regs);
     let iir = regs[IIR];
     let told = interrupts::byte_sent(regs[IER], iir, waits);
     iir::store(regs, told.changes, told.iir);
-    memory::wide(value) + SENT + ONE_RAISE * told.raises
+    told.raises
 }

@@ -8,8 +8,9 @@ use native.Mathlib.Omega.{arith}
 use borrow.Author.Tests.{lt-ltb, le-ltb}
 use lib.Dec.{eqb}
 use lib.ListN.{length, getD}
-use Rattle.serial.specs.Port.{Port, Out, Input, readOf, writeOf, inputOf, isOpen, inLoop, hasRoom, becomes, receives, takesNone, takesSome}
-use Rattle.serial.specs.Port.{Register, RBR-THR, IER, IIR-FCR, LCR, MCR, LSR, MSR, SCR, DLL, DLM, reserved, addressed, writeRegister, writeLine, writeIer}
+use Rattle.serial.specs.Port.{Port, Out, Input, readOf, writeOf, inputOf, isOpen, inLoop, hasRoom, takesNone, takesSome}
+use Rattle.serial.specs.Port.{Register, RBR-THR, IER, IIR-FCR, LCR, MCR, LSR, MSR, SCR, DLL, DLM, reserved, addressed, writeRegister}
+use Rattle.serial.specs.Port.{writeLine, writeLoop, writeIer}
 use Rattle.serial.specs.Layout.{size, portOf}
 use Rattle.serial.specs.Calls.{Reads, Writes, TakesInput, writeWord, inputWord}
 use Rattle.words.specs.Hex.{digitsOf}
@@ -18,17 +19,16 @@ use Rattle.words.specs.Text.{text}
 use Rattle.words.proofs.Putting.{both, instead}
 use Rattle.serial_words.specs.Inside.{sentPart, takenPart}
 use Rattle.serial_words.specs.Said.{raisesSay, sentSays, takenSays, portSays}
-use Rattle.serial_access.specs.Accesses.{DidRead, DidWrite, DidInput}
+use Rattle.serial_access.specs.Accesses.{DidRead, DidWrite, DidInput, lineSays}
 
 -- A write sends its value or nothing.
 value-or-none : (p : Port) (g : Register) (value : ℕ) → (writeRegister p g value .sent ≡ []) ⊎ (writeRegister p g value .sent ≡ value ∷ [])
-unfolding writeRegister writeLine receives writeIer
-value-or-none p RBR-THR value = go (inLoop p) (hasRoom p)
+unfolding writeRegister writeLine writeLoop writeIer
+value-or-none p RBR-THR value = go (inLoop p)
   where
-    go : (loops room : Bool) → let o = cond loops (cond room (receives p (value ∷ [])) (becomes p)) (writeLine p value) in (o .sent ≡ []) ⊎ (o .sent ≡ value ∷ [])
-    go true true = inl refl
-    go true false = inl refl
-    go false room = inr refl
+    go : (loops : Bool) → let o = cond loops (writeLoop p value) (writeLine p value) in (o .sent ≡ []) ⊎ (o .sent ≡ value ∷ [])
+    go true = inl refl
+    go false = inr refl
 value-or-none p IER value = inl refl
 value-or-none p IIR-FCR value = inl refl
 value-or-none p LCR value = inl refl
@@ -55,13 +55,15 @@ few-taken : (p : Port) (bytes : List ℕ) → p .size ≡ size → inputOf p byt
 unfolding inputOf
 few-taken p bytes e = go (inLoop p) (eqb (length bytes) 0) (hasRoom p)
   where
-    go : (loops none room : Bool) → cond loops (takesNone p false) (cond none (takesNone p false) (cond room (takesSome p bytes) (takesNone p true))) .taken < 0x1_0000
+    go : (loops none room : Bool)
+        → cond loops (takesNone p false) (cond none (takesNone p false) (cond room (takesSome p bytes) (takesNone p true))) .taken < 0x1_0000
     go true none room = omega arith
     go false true room = omega arith
     go false false true = omega (arith, e)
     go false false false = omega arith
 
-input-parts : (i : Input) → i .taken < 0x1_0000 → (takenPart (inputWord i % 0x100_0000) ≡ takenSays (i .full) (i .taken)) × (inputWord i / 0x100_0000 ≡ i .raises)
+input-parts : (i : Input) → i .taken < 0x1_0000
+    → (takenPart (inputWord i % 0x100_0000) ≡ takenSays (i .full) (i .taken)) × (inputWord i / 0x100_0000 ≡ i .raises)
 input-parts i h = go (i .full)
   where
     go : (f : Bool) → let word = i .taken + cond f 0x1_0000 0 + 0x100_0000 * i .raises in
@@ -80,7 +82,8 @@ unfolding portOf
 size-of regs pos ring = refl
 
 module _ {out o₁ o₂ out′ : List ℕ} {at a b r : ℕ} {regs pos ring regs′ pos′ : List ℕ} {word : ℕ} where
-  pub reads : (offset : ℕ) → Reads (λ p. readOf p offset) regs pos ring regs′ pos′ word → Puts out at (text "r ") o₁ a → Puts o₁ a (digitsOf (word % 256)) o₂ b
+  pub reads : (offset : ℕ) → Reads (λ p. readOf p offset) regs pos ring regs′ pos′ word → Puts out at (text "r ") o₁ a
+      → Puts o₁ a (digitsOf (word % 256)) o₂ b
       → Puts o₂ b (raisesSay (word / 0x100_0000)) out′ r → DidRead offset regs pos ring regs′ pos′ ring out at out′ r
   reads offset c p q s = record { says = rw (← c .answer) (both (both p q) s); holds = c .holds }
 
@@ -95,8 +98,10 @@ module _ {out o₁ o₂ out′ : List ℕ} {at a b r : ℕ} {regs pos ring regs�
         holds = c .holds;
       }
 
-  pub takes : (bytes : List ℕ) {ring′ : List ℕ} → TakesInput (λ p. inputOf p bytes) regs pos ring regs′ pos′ ring′ word → Puts out at (text "b ") o₁ a
-      → Puts o₁ a (takenPart (word % 0x100_0000)) o₂ b → Puts o₂ b (raisesSay (word / 0x100_0000)) out′ r → DidInput bytes regs pos ring regs′ pos′ ring′ out at out′ r
+  pub takes : (bytes : List ℕ) {ring′ : List ℕ} → TakesInput (λ p. inputOf p bytes) regs pos ring regs′ pos′ ring′ word
+      → Puts out at (text "b ") o₁ a
+      → Puts o₁ a (takenPart (word % 0x100_0000)) o₂ b → Puts o₂ b (raisesSay (word / 0x100_0000)) out′ r
+      → DidInput bytes regs pos ring regs′ pos′ ring′ out at out′ r
   takes bytes c p q s =
       let parts = input-parts (inputOf (portOf regs pos ring) bytes) (few-taken (portOf regs pos ring) bytes (size-of regs pos ring)) in
       record {
@@ -106,6 +111,12 @@ module _ {out o₁ o₂ out′ : List ℕ} {at a b r : ℕ} {regs pos ring regs�
 
 -- the port as it lies, by its two positions
 pub state-of : (regs pos ring : List ℕ) {name out o₁ out′ : List ℕ} {at a r : ℕ} → Puts out at name o₁ a
-    → Puts o₁ a (portSays (portOf regs (getD pos 0 0 ∷ getD pos 1 0 ∷ []) ring)) out′ r → Puts out at (name ++ portSays (portOf regs pos ring)) out′ r
+    → Puts o₁ a (portSays (portOf regs (getD pos 0 0 ∷ getD pos 1 0 ∷ []) ring)) out′ r
+    → Puts out at (name ++ portSays (portOf regs pos ring)) out′ r
 unfolding portOf
 state-of regs pos ring p q = both p q
+
+-- The line is high, or low.
+pub line-said : {high t : Bool} {out out′ : List ℕ} {at r : ℕ} → high ≡ t → {level : Bool} → high ≡ level → Puts out at (lineSays t) out′ r
+    → Puts out at (lineSays level) out′ r
+line-said e f p = rw (← f, e) p

@@ -1,6 +1,7 @@
 -- What is said after an access of the port or an input to it, and the port that is left.
 use Prim.Native.Nat.{ℕ, _/_, _%_}
 use mathlib.Core.Path.{_≡_}
+use mathlib.Core.Bool.{Bool, cond}
 use mathlib.Core.List.{List, _++_}
 use Rattle.serial.specs.Port.{Port, Out, Input, readOf, writeOf, inputOf}
 use Rattle.serial.specs.Layout.{portOf}
@@ -23,6 +24,9 @@ inputSays i = text "b " ++ takenSays (i .full) (i .taken) ++ raisesSay (i .raise
 
 abbrev pub roomSays : ℕ → List ℕ
 roomSays room = text "room " ++ decimalOf room ++ text "\n"
+
+abbrev pub lineSays : Bool → List ℕ
+lineSays high = cond high (text "line 1\n") (text "line 0\n")
 
 -- A call was answered: what was said, and the port that the memory holds.
 pub record Did (said : List ℕ) (port : Port) (regs′ pos′ ring′ out : List ℕ) (at : ℕ) (out′ : List ℕ) (r : ℕ) : Type 0 where

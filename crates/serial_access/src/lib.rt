@@ -16,11 +16,11 @@ use words::put::put_byte;
 ghost use Prim.Native.Nat.{ℕ, _+_, _≤_};
 ghost use mathlib.Core.List.{List, _++_};
 ghost use Rattle.serial.specs.Layout.{portOf};
-ghost use Rattle.serial.specs.Port.{roomOf};
+ghost use Rattle.serial.specs.Port.{roomOf, line};
 ghost use Rattle.words.specs.Put.{Puts};
 ghost use Rattle.words.specs.Text.{text};
 ghost use Rattle.serial_words.specs.Said.{portSays};
-ghost use Rattle.serial_access.specs.Accesses.{DidRead, DidWrite, DidInput, roomSays};
+ghost use Rattle.serial_access.specs.Accesses.{DidRead, DidWrite, DidInput, roomSays, lineSays};
 
 pub fn write(
     regs: &mut Regs,
@@ -110,4 +110,18 @@ pub fn state(regs: &Regs, pos: &Pos, ring: &Ring, out: &mut Block, at: usize) ->
 {
     let a = put(out, at, b"state");
     put_port(out, a, regs, pos[START], pos[COUNT], ring)
+}
+
+pub fn line(regs: &Regs, pos: &Pos, out: &mut Block, at: usize) -> usize
+    requires { ⌜ at + 4096 ≤ 65536 ⌝ }
+    ensures { λ r. ⌜
+        ((ring : List ℕ) →
+        Puts (now (out .entry)) at (lineSays (line (portOf (now (regs .entry)) (now (pos .entry)) ring))) (now (out .exit)) r)
+        ⌝ }
+    ensures { λ r. ⌜ r ≤ at + 4096 ⌝ }
+{
+    if serial::line(regs, pos) {
+        return put(out, at, b"line 1\n");
+    }
+    put(out, at, b"line 0\n")
 }

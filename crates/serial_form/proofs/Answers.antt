@@ -49,7 +49,8 @@ all-zero [] e = refl
 all-zero (zero ∷ l) e = ap (λ (k : List ℕ). 0 ∷ k) (all-zero l e)
 all-zero (suc x ∷ l) e = absurd (false≢true e)
 
-pub as-found : (saved : List ℕ) (r : Bool) → length saved ≡ 16 → (r ≡ true) ↔ (spareRegisters saved ≡ freshSpareRegisters) → hasNoSpare saved ≡ r
+pub as-found : (saved : List ℕ) (r : Bool) → length saved ≡ 16 → (r ≡ true) ↔ (spareRegisters saved ≡ freshSpareRegisters)
+    → hasNoSpare saved ≡ r
 unfolding zeros
 as-found saved r long found = go r (hasNoSpare saved) refl refl
   where
@@ -76,12 +77,14 @@ module _ (saved waiting form : List ℕ) (long : length saved ≡ 16) where
   pub encode-refuses-spare : length waiting ≤ size → hasNoSpare saved ≡ false → Encodes saved waiting form form (refusalWord spare)
   encode-refuses-spare h z = record { answer = rw (le-leb _ _ h, z); memory = rw (le-leb _ _ h, z) }
 
-  pub encode-tells : length waiting ≤ size → hasNoSpare saved ≡ true → length form < 13 + length waiting → Encodes saved waiting form form (13 + length waiting)
+  pub encode-tells : length waiting ≤ size → hasNoSpare saved ≡ true → length form < 13 + length waiting
+      → Encodes saved waiting form form (13 + length waiting)
   encode-tells h z l =
       let short : length form < length (formOf saved waiting) = omega (arith, form-length saved waiting long) in
       record { answer = rw (le-leb _ _ h, z) (sym (form-length saved waiting long)); memory = rw (le-leb _ _ h, z, lt-leb _ _ short) }
 
-  pub encode-writes : {form′ : List ℕ} → length waiting ≤ size → hasNoSpare saved ≡ true → 13 + length waiting ≤ length form → form′ ≡ sets form 0 (formOf saved waiting)
+  pub encode-writes : {form′ : List ℕ} → length waiting ≤ size → hasNoSpare saved ≡ true → 13 + length waiting ≤ length form
+      → form′ ≡ sets form 0 (formOf saved waiting)
       → Encodes saved waiting form form′ (13 + length waiting)
   encode-writes h z l e =
       let room : length (formOf saved waiting) ≤ length form = omega (arith, form-length saved waiting long) in
@@ -102,7 +105,8 @@ goes-on e d = rw e d
 
 module _ (n : ℕ) (form saved waiting : List ℕ) {saved₁ saved′ waiting′ : List ℕ} where
   pub accepts : n ≤ size → length form ≡ 13 + n → length saved ≡ 16 → length waiting ≡ places
-      → saved₁ ≡ sets saved 0 (registersIn form) → saved′ ≡ sets saved₁ 9 freshSpareRegisters → waiting′ ≡ sets waiting 0 (take (length form - 13) (drop 13 form))
+      → saved₁ ≡ sets saved 0 (registersIn form) → saved′ ≡ sets saved₁ 9 freshSpareRegisters
+      → waiting′ ≡ sets waiting 0 (take (length form - 13) (drop 13 form))
       → Decodes (readBehind n form) saved waiting saved′ waiting′ n
   accepts h e s w p o q =
       let behind : length (drop 13 form) ≡ n = length-drop 13 form ∙ omega arith in

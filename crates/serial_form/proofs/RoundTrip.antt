@@ -1,5 +1,5 @@
--- Writing and reading are inverse, and what reading comes to is known exactly. That nothing past the end is read needs no theorem: no index is out
--- of range in code that is proved.
+-- Writing and reading are inverse, and what reading comes to is known exactly. That nothing past the end is read needs no theorem: no index
+-- is out of range in code that is proved.
 use mathlib.Core.Path.{_≡_, refl, sym, ap, ap₂, _∙_}
 use mathlib.Core.Bool.{true}
 use mathlib.Core.List.{List, [], _∷_, _++_}
@@ -11,11 +11,13 @@ use lib.Seq.{take-append-seam, take-at, drop-at, drop-drop}
 use borrow.Author.Tests.{le-leb}
 use Rattle.common.specs.Bytes.{bytesOf, valueOf, Bytes}
 use Rattle.common.proofs.Bytes.{bytes-drop, bytes-of-value}
-use Rattle.serial_form.specs.Form.{Read, refused, reads, current, formOf, versionIn, registersIn, savedIn, countIn, readBehind, readForm}
+use Rattle.serial_form.specs.Form.{Read, refused, reads, current, formOf, versionIn, registersIn, savedIn, countIn, readBehind}
+use Rattle.serial_form.specs.Form.{readForm}
 use Rattle.serial.specs.Layout.{size, spareRegisters, freshSpareRegisters}
 use Rattle.serial_form.specs.Calls.{written, areZero, hasNoSpare, Encodes, Decodes}
 use Rattle.serial_form.specs.Outcomes.{Comes, noVersion, otherVersion, cutOff, tooManyWait, tooFew, leftOver, whole}
-use Rattle.serial_form.proofs.Reading.{too-many, too-few, left-over, none-left, no-count, counted, no-version, known-version, other-version}
+use Rattle.serial_form.proofs.Reading.{too-many, too-few, left-over, none-left, no-count, counted, no-version, known-version}
+use Rattle.serial_form.proofs.Reading.{other-version}
 
 -- ---- What reading comes to, exactly
 
@@ -91,7 +93,8 @@ module _ (saved waiting : List ℕ) (long : length saved ≡ 16) where
   version-back = refl
 
   -- where no spare register, which the form does not have, is other than 0
-  pub read-written : length waiting ≤ size → spareRegisters saved ≡ freshSpareRegisters → readForm (formOf saved waiting) ≡ reads saved waiting
+  pub read-written : length waiting ≤ size → spareRegisters saved ≡ freshSpareRegisters
+      → readForm (formOf saved waiting) ≡ reads saved waiting
   read-written h z =
       let few : countIn (formOf saved waiting) ≤ size = rw (count-back h) h in
       let all : length (formOf saved waiting) ≡ 13 + countIn (formOf saved waiting) = rw (count-back h) (form-length saved waiting long) in
@@ -145,7 +148,8 @@ module _ (form saved waiting : List ℕ) (read : readForm form ≡ reads saved w
 -- ---- Two calls
 
 -- Where there is room for the form it lies first.
-encoded : {saved waiting form form′ : List ℕ} {r : ℕ} → length waiting ≤ size → hasNoSpare saved ≡ true → Encodes saved waiting form form′ r → r ≤ length form
+encoded : {saved waiting form form′ : List ℕ} {r : ℕ} → length waiting ≤ size → hasNoSpare saved ≡ true → Encodes saved waiting form form′ r
+    → r ≤ length form
     → (r ≡ length (formOf saved waiting)) × (take r form′ ≡ formOf saved waiting)
 encoded {saved} {waiting} {form} {form′} {r} few none w enough =
     let bytes = formOf saved waiting in
@@ -155,7 +159,8 @@ encoded {saved} {waiting} {form} {form′} {r} few none w enough =
     (answer, rw (answer, memory) (take-append-seam bytes (drop (length bytes) form)))
 
 -- What one has written into memory with room for it, the other reads back.
-pub there-and-back : {saved waiting form form′ saved₀ waiting₀ saved₁ waiting₁ : List ℕ} {r n : ℕ} → length saved ≡ 16 → length waiting ≤ size
+pub there-and-back : {saved waiting form form′ saved₀ waiting₀ saved₁ waiting₁ : List ℕ} {r n : ℕ} → length saved ≡ 16
+    → length waiting ≤ size
     → spareRegisters saved ≡ freshSpareRegisters
     → Encodes saved waiting form form′ r → r ≤ length form → Decodes (readForm (take r form′)) saved₀ waiting₀ saved₁ waiting₁ n
     → (n ≡ length waiting) × ((saved₁ ≡ saved) × (waiting₁ ≡ written waiting waiting₀))

@@ -13,8 +13,10 @@ use Rattle.serial_form.specs.Form.{Read, refused, reads, formOf}
 abbrev pub written : List ℕ → List ℕ → List ℕ
 written bytes memory = bytes ++ drop (length bytes) memory
 
--- ---- Writing: how long the form is. It is written where there is room for it. More bytes than may wait are refused, and then a spare register
--- other than 0, which the form does not have.
+-- ---- Writing
+
+-- How long the form is. It is written where there is room for it. More bytes than may wait are refused, and then a spare register other than
+-- 0, which the form does not have.
 
 abbrev pub mayWait : List ℕ → Bool
 mayWait waiting = leb (length waiting) size
@@ -31,8 +33,10 @@ abbrev pub hasRoom : List ℕ → List ℕ → Bool
 hasRoom bytes memory = leb (length bytes) (length memory)
 
 pub record Encodes (saved waiting form form′ : List ℕ) (r : ℕ) : Type 0 where
-  pub answer : r ≡ cond (mayWait waiting) (cond (hasNoSpare saved) (length (formOf saved waiting)) (refusalWord spare)) (refusalWord tooMany)
-  pub memory : form′ ≡ cond (mayWait waiting && hasNoSpare saved && hasRoom (formOf saved waiting) form) (written (formOf saved waiting) form) form
+  pub answer :
+      r ≡ cond (mayWait waiting) (cond (hasNoSpare saved) (length (formOf saved waiting)) (refusalWord spare)) (refusalWord tooMany)
+  pub memory :
+      form′ ≡ cond (mayWait waiting && hasNoSpare saved && hasRoom (formOf saved waiting) form) (written (formOf saved waiting) form) form
 
 -- ---- Reading: how many bytes wait, or why the form is refused. A refusal leaves all bytes as they were.
 

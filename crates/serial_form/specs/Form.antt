@@ -1,5 +1,5 @@
--- A saved serial port as bytes: the version at 0, nine registers at 2, how many bytes wait at 11, these bytes at 13. The two numbers have two
--- bytes each, lowest first. The spare registers, all 0, are left out.
+-- A saved serial port as bytes: the version at 0, nine registers at 2, how many bytes wait at 11, these bytes at 13. The two numbers have
+-- two bytes each, lowest first. The spare registers, all 0, are left out.
 use Prim.Native.Nat.{ℕ, _+_}
 use mathlib.Core.Bool.{cond}
 use mathlib.Core.List.{List, _++_}

@@ -8,7 +8,7 @@ use native.Mathlib.Omega.{arith}
 use borrow.Author.Tests.{le-leb, lt-leb}
 use lib.ListN.{length, getD, take, drop}
 use lib.Seq.{take-suc}
-use Rattle.serial.specs.Port.{Port, roomOf}
+use Rattle.serial.specs.Port.{Port, roomOf, line}
 use Rattle.ring.specs.Ring.{queue}
 use Rattle.serial.specs.Layout.{size, places, portOf, spareRegisters, freshSpareRegisters}
 use Rattle.ring.proofs.Laws.{queue-split}
@@ -16,7 +16,7 @@ use Rattle.serial.proofs.Bounds.{memory-fits}
 use Rattle.serial_saved.specs.Saved.{savedOf}
 use Rattle.serial_saved.specs.Calls.{Saves}
 use Rattle.serial_saved.proofs.Bringing.{same-port}
-use Rattle.serial_access.specs.Accesses.{DidRead, DidWrite, DidInput, roomSays}
+use Rattle.serial_access.specs.Accesses.{DidRead, DidWrite, DidInput, roomSays, lineSays}
 use Rattle.serial_words.specs.Lines.{lineOf}
 use Rattle.serial_words.specs.Said.{portSays}
 use Rattle.serial_words.specs.declared.line.Access.{Access}
@@ -44,6 +44,7 @@ use Rattle.serial_lines.specs.Answers.{
   input,
   showRoom,
   showState,
+  showLine,
   save,
   restore,
   nothing,
@@ -55,7 +56,8 @@ holding ports regs pos ring = record { regs = regs; pos = pos; ring = ring; save
 
 -- ---- A line that asks for nothing, and one that restores a port
 
-pub unknown : (ports : Ports) {out out′ : List ℕ} {at r : ℕ} → Puts out at (text "?\n") out′ r → r ≤ at + 4096 → Answers nothing ports out at ports out′ r
+pub unknown : (ports : Ports) {out out′ : List ℕ} {at r : ℕ} → Puts out at (text "?\n") out′ r → r ≤ at + 4096
+    → Answers nothing ports out at ports out′ r
 unknown ports p h = record { reached = false; tells = tt; said = p; port = refl; kept = (refl, refl, refl); short = h }
 
 brought : (ports : Ports) {saved : Port} {spares regs′ pos′ ring′ out out′ : List ℕ} {at r : ℕ}
@@ -90,7 +92,8 @@ module _ {digits bytes : List ℕ} {b : Bytes} (g : Gives digits bytes b) where
   unfolding countOf
   first n e = rw (e, good n e) at (g .first)
 
-  pub bad-bytes : (ports : Ports) (ask : List ℕ → Asks) {out out′ : List ℕ} {at r : ℕ} → b ≡ Bad → Puts out at (text "?\n") out′ r → r ≤ at + 4096
+  pub bad-bytes : (ports : Ports) (ask : List ℕ → Asks) {out out′ : List ℕ} {at r : ℕ} → b ≡ Bad → Puts out at (text "?\n") out′ r
+      → r ≤ at + 4096
       → Answers (asksWith digits ask) ports out at ports out′ r
   bad-bytes ports ask e p h = rw (bad e) (unknown ports p h)
 
@@ -139,8 +142,10 @@ from-first waiting (suc n) h l =
     one-from waiting n (omega arith) ∙ rw (from-first waiting n (omega arith) (omega arith)) (sym (take-suc waiting n 0 (omega arith)))
 
 module _ (ports : Ports) {out out′ : List ℕ} {at r : ℕ} where
-  pub saves : {saved′ waiting′ o₁ : List ℕ} {count′ a : ℕ} → Saves (ports .regs) (ports .pos) (ports .ring) (ports .waiting) saved′ waiting′ count′
-      → length waiting′ ≡ places → Puts out at (text "save") o₁ a → Puts o₁ a (portSays (portOf saved′ (0 ∷ count′ ∷ []) waiting′)) out′ r → r ≤ at + 4096
+  pub saves : {saved′ waiting′ o₁ : List ℕ} {count′ a : ℕ}
+      → Saves (ports .regs) (ports .pos) (ports .ring) (ports .waiting) saved′ waiting′ count′
+      → length waiting′ ≡ places → Puts out at (text "save") o₁ a → Puts o₁ a (portSays (portOf saved′ (0 ∷ count′ ∷ []) waiting′)) out′ r
+      → r ≤ at + 4096
       → Answers save ports out at (record { regs = ports .regs; pos = ports .pos; ring = ports .ring; saved = saved′; waiting = waiting′; count = count′ }) out′ r
   unfolding savedOf
   saves {saved′} {waiting′} {count′ = count′} s l p q h =
@@ -152,27 +157,36 @@ module _ (ports : Ports) {out out′ : List ℕ} {at r : ℕ} where
 
 -- ---- One line
 
-pub by-line : (line : List ℕ) (ports : Ports) {l : Line} {ports′ : Ports} {out out′ : List ℕ} {at r : ℕ} {told : Line} → told ≡ lineOf line → told ≡ l
+pub by-line : (line : List ℕ) (ports : Ports) {l : Line} {ports′ : Ports} {out out′ : List ℕ} {at r : ℕ} {told : Line} → told ≡ lineOf line
+    → told ≡ l
     → Answers (asksBy l ports line) ports out at ports′ out′ r → Answers (asks ports line) ports out at ports′ out′ r
 by-line line ports e f a = rw (← e, f) a
 
 module _ (ports : Ports) {out out′ : List ℕ} {at r : ℕ} where
-  pub written : {offset value : ℕ} {regs′ pos′ ring′ : List ℕ} → DidWrite offset value (ports .regs) (ports .pos) (ports .ring) regs′ pos′ ring′ out at out′ r → r ≤ at + 4096
+  pub written : {offset value : ℕ} {regs′ pos′ ring′ : List ℕ}
+      → DidWrite offset value (ports .regs) (ports .pos) (ports .ring) regs′ pos′ ring′ out at out′ r → r ≤ at + 4096
       → Answers (write offset value) ports out at (holding ports regs′ pos′ ring′) out′ r
   written d h = record { reached = false; tells = tt; said = d .says; port = d .holds; kept = (refl, refl, refl); short = h }
 
-  pub read-from : {offset : ℕ} {regs′ pos′ : List ℕ} → DidRead offset (ports .regs) (ports .pos) (ports .ring) regs′ pos′ (ports .ring) out at out′ r → r ≤ at + 4096
+  pub read-from : {offset : ℕ} {regs′ pos′ : List ℕ}
+      → DidRead offset (ports .regs) (ports .pos) (ports .ring) regs′ pos′ (ports .ring) out at out′ r → r ≤ at + 4096
       → Answers (read offset) ports out at (holding ports regs′ pos′ (ports .ring)) out′ r
   read-from d h = record { reached = false; tells = tt; said = d .says; port = d .holds; kept = (refl, refl, refl); short = h }
 
   pub room-said : Puts out at (roomSays (roomOf (portIn ports))) out′ r → r ≤ at + 4096 → Answers showRoom ports out at ports out′ r
   room-said p h = record { reached = false; tells = tt; said = p; port = refl; kept = (refl, refl, refl); short = h }
 
-  pub state-said : Puts out at (text "state" ++ portSays (portIn ports)) out′ r → r ≤ at + 4096 → Answers showState ports out at ports out′ r
+  pub state-said : Puts out at (text "state" ++ portSays (portIn ports)) out′ r → r ≤ at + 4096
+      → Answers showState ports out at ports out′ r
   state-said p h = record { reached = false; tells = tt; said = p; port = refl; kept = (refl, refl, refl); short = h }
 
-  pub registers-brought : (line saved : List ℕ) {regs′ pos′ ring′ : List ℕ} → ((w : List ℕ) → savedOf saved w ≡ givenIn line w) → spareRegisters saved ≡ freshSpareRegisters
-      → Brought (savedOf saved []) (spareRegisters saved) (ports .regs) (ports .pos) (ports .ring) regs′ pos′ ring′ out at out′ r → r ≤ at + 4096
+  pub line-said : Puts out at (lineSays (line (portIn ports))) out′ r → r ≤ at + 4096 → Answers showLine ports out at ports out′ r
+  line-said p h = record { reached = false; tells = tt; said = p; port = refl; kept = (refl, refl, refl); short = h }
+
+  pub registers-brought : (line saved : List ℕ) {regs′ pos′ ring′ : List ℕ} → ((w : List ℕ) → savedOf saved w ≡ givenIn line w)
+      → spareRegisters saved ≡ freshSpareRegisters
+      → Brought (savedOf saved []) (spareRegisters saved) (ports .regs) (ports .pos) (ports .ring) regs′ pos′ ring′ out at out′ r
+      → r ≤ at + 4096
       → Answers (restore (givenIn line []) freshSpareRegisters) ports out at (holding ports regs′ pos′ ring′) out′ r
   registers-brought line saved s z b h = rw (← s [], ← z) (brought ports b h)
 

@@ -31,7 +31,8 @@ read-plainly o h = let parts = read-word o h in rw (parts .0, parts .1) refl
 
 -- ---- A port is restored
 
-pub nine : (line : List ℕ) {a b c d e f g h i : ℕ} → a ≡ byteAt line 8 → b ≡ byteAt line 14 → c ≡ byteAt line 17 → d ≡ byteAt line 20 → e ≡ byteAt line 26
+pub nine : (line : List ℕ) {a b c d e f g h i : ℕ} → a ≡ byteAt line 8 → b ≡ byteAt line 14 → c ≡ byteAt line 17 → d ≡ byteAt line 20
+    → e ≡ byteAt line 26
     → f ≡ byteAt line 23 → g ≡ byteAt line 29 → h ≡ byteAt line 32 → i ≡ byteAt line 11 → (waiting : List ℕ)
     → savedOf (a ∷ b ∷ c ∷ d ∷ e ∷ f ∷ g ∷ h ∷ i ∷ freshSpareRegisters) waiting ≡ givenIn line waiting
 unfolding savedOf portOf
@@ -44,7 +45,8 @@ module _ {regs pos ring saved waiting regs′ pos′ ring′ : List ℕ} {word :
   refused : word ≡ 0x1_0000 → o .refused ≡ true
   refused e = go (b .reachable) (o .refused) (o .raises) (sym (b .answer) ∙ e)
     where
-      go : (reachable refused : Bool) (raises : ℕ) → cond refused 0x1_0000 0 + cond reachable 0x4_0000 0 + 0x100_0000 * raises ≡ 0x1_0000 → refused ≡ true
+      go : (reachable refused : Bool) (raises : ℕ) → cond refused 0x1_0000 0 + cond reachable 0x4_0000 0 + 0x100_0000 * raises ≡ 0x1_0000
+          → refused ≡ true
       go reachable true raises e = refl
       go true false raises e = absurd (omega (arith, e))
       go false false raises e = absurd (omega (arith, e))
@@ -64,7 +66,8 @@ module _ {regs pos ring saved waiting regs′ pos′ ring′ : List ℕ} {word :
   odd : word / 0x4_0000 % 2 ≡ cond (b .reachable) 1 0
   odd = rw (b .answer) (go (b .reachable) (o .refused))
     where
-      go : (reachable refused : Bool) → (cond refused 0x1_0000 0 + cond reachable 0x4_0000 0 + 0x100_0000 * o .raises) / 0x4_0000 % 2 ≡ cond reachable 1 0
+      go : (reachable refused : Bool)
+          → (cond refused 0x1_0000 0 + cond reachable 0x4_0000 0 + 0x100_0000 * o .raises) / 0x4_0000 % 2 ≡ cond reachable 1 0
       go true true = omega arith
       go true false = omega arith
       go false true = omega arith
@@ -79,7 +82,8 @@ module _ {regs pos ring saved waiting regs′ pos′ ring′ : List ℕ} {word :
   said : broughtPart word ≡ restoreSays o (b .reachable)
   said = go (ℕ-discrete word 0x1_0000)
     where
-      reach : (t : Bool) → cond (eqb (cond t 1 0) 1) (text " reached\n") (text " unreached\n") ≡ cond t (text " reached\n") (text " unreached\n")
+      reach : (t : Bool)
+          → cond (eqb (cond t 1 0) 1) (text " reached\n") (text " unreached\n") ≡ cond t (text " reached\n") (text " unreached\n")
       reach true = refl
       reach false = refl
 

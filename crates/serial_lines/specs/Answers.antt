@@ -6,7 +6,7 @@ use mathlib.Core.List.{List, [], _++_}
 use mathlib.Core.Logic.{_↔_}
 use lib.Dec.{leb}
 use lib.ListN.{take, drop}
-use Rattle.serial.specs.Port.{Port, readOf, writeOf, inputOf, roomOf}
+use Rattle.serial.specs.Port.{Port, readOf, writeOf, inputOf, roomOf, line}
 use Rattle.serial.specs.Layout.{size, portOf, spareRegisters, freshSpareRegisters}
 use Rattle.runs.specs.Reachable.{Reachable}
 use Rattle.serial_saved.specs.Saved.{Restore, savedOf, restoreOf}
@@ -14,13 +14,14 @@ use Rattle.words.specs.Decimal.{decimalOf}
 use Rattle.words.specs.Hex.{byteAt, bytesOf, areBytes}
 use Rattle.words.specs.Put.{Puts}
 use Rattle.words.specs.Text.{text}
-use Rattle.serial_access.specs.Accesses.{Did, readSays, writeSays, inputSays, roomSays}
+use Rattle.serial_access.specs.Accesses.{Did, readSays, writeSays, inputSays, roomSays, lineSays}
 use Rattle.serial_words.specs.Lines.{lineOf}
 use Rattle.serial_words.specs.Said.{portSays}
 use Rattle.serial_words.specs.declared.line.Line.{Line}
 use Rattle.serial_words.specs.declared.line.Line.the-variants.{Save, Kept, OfPort}
 use Rattle.serial_words.specs.declared.line.Access.{Access}
-use Rattle.serial_words.specs.declared.line.Access.the-variants.{Write, Read, InputNone, InputBytes, Room, State, RestoreNone, RestoreBytes, Unknown}
+use Rattle.serial_words.specs.declared.line.Access.the-variants.{Write, Read, InputNone, InputBytes, Room, State, Level, RestoreNone}
+use Rattle.serial_words.specs.declared.line.Access.the-variants.{RestoreBytes, Unknown}
 use Rattle.serial_lines.specs.declared.Ports.{Ports}
 
 abbrev pub portsOf : List ℕ → List ℕ → List ℕ → List ℕ → List ℕ → ℕ → Ports
@@ -39,7 +40,7 @@ pub data Asks : Type 0 where
   read : ℕ → Asks
   write : ℕ → ℕ → Asks
   input : List ℕ → Asks
-  showRoom showState save : Asks
+  showRoom showState showLine save : Asks
   restore : Port → List ℕ → Asks
   nothing : Asks
 
@@ -76,6 +77,7 @@ asksPort InputNone line = input []
 asksPort InputBytes line = asksWith (drop 2 line) input
 asksPort Room line = showRoom
 asksPort State line = showState
+asksPort Level line = showLine
 asksPort RestoreNone line = restore (givenIn line []) freshSpareRegisters
 asksPort RestoreBytes line = asksWith (drop 35 line) (λ bytes. restore (givenIn line bytes) freshSpareRegisters)
 asksPort Unknown line = nothing
@@ -92,7 +94,8 @@ asks ports line = asksBy (lineOf line) ports line
 
 abbrev pub restoreSays : Restore → Bool → List ℕ
 restoreSays o reached =
-    cond (o .refused) (text "restore full\n") (text "restore " ++ decimalOf (o .raises) ++ cond reached (text " reached\n") (text " unreached\n"))
+    cond (o .refused) (text "restore full\n")
+    (text "restore " ++ decimalOf (o .raises) ++ cond reached (text " reached\n") (text " unreached\n"))
 
 abbrev pub says : Asks → Port → Bool → List ℕ
 says (read offset) p reached = readSays (readOf p offset)
@@ -100,6 +103,7 @@ says (write offset value) p reached = writeSays (writeOf p offset value)
 says (input bytes) p reached = inputSays (inputOf p bytes)
 says showRoom p reached = roomSays (roomOf p)
 says showState p reached = text "state" ++ portSays p
+says showLine p reached = lineSays (line p)
 says save p reached = text "save" ++ portSays p
 says (restore saved spares) p reached = restoreSays (restoreOf p saved) reached
 says nothing p reached = text "?\n"
@@ -115,6 +119,7 @@ Tells (write offset value) reached = Unit {0}
 Tells (input bytes) reached = Unit {0}
 Tells showRoom reached = Unit {0}
 Tells showState reached = Unit {0}
+Tells showLine reached = Unit {0}
 Tells save reached = Unit {0}
 Tells nothing reached = Unit {0}
 
@@ -126,6 +131,7 @@ portThen (write offset value) p = writeOf p offset value .port
 portThen (input bytes) p = inputOf p bytes .port
 portThen showRoom p = p
 portThen showState p = p
+portThen showLine p = p
 portThen save p = p
 portThen (restore saved spares) p = restoreOf p saved .port
 portThen nothing p = p
@@ -136,6 +142,7 @@ isSave (write offset value) = false
 isSave (input bytes) = false
 isSave showRoom = false
 isSave showState = false
+isSave showLine = false
 isSave save = true
 isSave (restore saved spares) = false
 isSave nothing = false
@@ -149,7 +156,8 @@ Keeps false ports ports′ = (ports′ .saved ≡ ports .saved) × (ports′ .wa
 pub record Brought (saved : Port) (spares regs pos ring regs′ pos′ ring′ out : List ℕ) (at : ℕ) (out′ : List ℕ) (r : ℕ) : Type 0 where
   pub reached : Bool
   pub tells : (reached ≡ true) ↔ Reached saved spares
-  pub did : Did (restoreSays (restoreOf (portOf regs pos ring) saved) reached) (restoreOf (portOf regs pos ring) saved .port) regs′ pos′ ring′ out at out′ r
+  pub did :
+      let o = restoreOf (portOf regs pos ring) saved in Did (restoreSays o reached) (o .port) regs′ pos′ ring′ out at out′ r
 
 -- What a line asks for was answered.
 pub record Answers (asked : Asks) (ports : Ports) (out : List ℕ) (at : ℕ) (ports′ : Ports) (out′ : List ℕ) (r : ℕ) : Type 0 where
@@ -163,7 +171,8 @@ pub record Answers (asked : Asks) (ports : Ports) (out : List ℕ) (at : ℕ) (p
 -- What a line asks of the port alone was answered, whatever was saved.
 abbrev pub AnswersPort : Asks → List ℕ → List ℕ → List ℕ → List ℕ → List ℕ → List ℕ → List ℕ → ℕ → List ℕ → ℕ → Type 0
 AnswersPort asked regs pos ring regs′ pos′ ring′ out at out′ r =
-    (saved waiting : List ℕ) (count : ℕ) → Answers asked (portsOf regs pos ring saved waiting count) out at (portsOf regs′ pos′ ring′ saved waiting count) out′ r
+    (saved waiting : List ℕ) (count : ℕ)
+    → Answers asked (portsOf regs pos ring saved waiting count) out at (portsOf regs′ pos′ ring′ saved waiting count) out′ r
 
 abbrev pub AnswersLine : List ℕ → Ports → List ℕ → ℕ → Ports → List ℕ → ℕ → Type 0
 AnswersLine line ports out at ports′ out′ r = Answers (asks ports line) ports out at ports′ out′ r

@@ -41,6 +41,7 @@ pub fn answer(
         Access::InputBytes => input_of(line, regs, pos, ring, out, at),
         Access::Room => room(pos, out, at),
         Access::State => state(regs, pos, ring, out, at),
+        Access::Level => serial_access::line(regs, pos, out, at),
         Access::RestoreNone => {
             let given = regs_in(line);
             restore(regs, pos, ring, &given, b"", out, at)

@@ -26,11 +26,13 @@ same-port regs pos ring waiting e = rw e refl
 
 -- ---- Save
 
-pub saves : (regs pos ring waiting saved′ waiting′ : List ℕ) (n : ℕ) → n ≡ countOf pos → saved′ ≡ regs → Unrolled places ring (startOf pos) n waiting waiting′
+pub saves : (regs pos ring waiting saved′ waiting′ : List ℕ) (n : ℕ) → n ≡ countOf pos → saved′ ≡ regs
+    → Unrolled places ring (startOf pos) n waiting waiting′
     → Saves regs pos ring waiting saved′ waiting′ n
 unfolding portOf
 saves regs pos ring waiting saved′ waiting′ n e s u =
-    let all : take n waiting′ ≡ queue places ring (startOf pos) (countOf pos) = u .bytes ∙ ap (λ (k : ℕ). queue places ring (startOf pos) k) e in
+    let all : take n waiting′ ≡ queue places ring (startOf pos) (countOf pos) = u .bytes
+    ∙ ap (λ (k : ℕ). queue places ring (startOf pos) k) e in
     record {
       registers = s;
       number = e ∙ sym (waiting-length regs pos ring);
@@ -77,7 +79,8 @@ module _ (saved waiting : List ℕ) where
         unchangedIfRefused = λ e. (refl, (refl, refl));
       })
 
-  pub restores : (regs pos ring regs′ ring′ : List ℕ) (raises : ℕ) (reachable : Bool) → length waiting ≤ size → length pos ≡ 4 → regs′ ≡ saved
+  pub restores : (regs pos ring regs′ ring′ : List ℕ) (raises : ℕ) (reachable : Bool) → length waiting ≤ size → length pos ≡ 4
+      → regs′ ≡ saved
       → Put places ring 0 0 (take (length waiting) waiting) ring′ (0 + length waiting) → (reachable ≡ true) ↔ ReachableSaved saved waiting
       → raises ≡ length (raisedAgain (savedOf saved waiting))
       → Restores regs pos ring saved waiting regs′ (set (set pos 0 0) 1 (length waiting)) ring′ (0x4_0000 * boolByte reachable + 0x100_0000 * raises)

@@ -3,19 +3,19 @@
 use mathlib.Core.Path.{_≡_, refl, sym, ap, subst, _∙_}
 use mathlib.Core.HLevel.{⊥-prop}
 use mathlib.Core.Logic.{_↔_, _⊎_, inl, inr, ∥∥₁-elim}
-use mathlib.Core.Bool.{Bool, true, false, cond, _&&_, false≢true}
+use mathlib.Core.Bool.{Bool, true, false, cond, false≢true}
 use mathlib.Core.List.{List, [], _∷_, _++_, List·Nodup, nodup-nil, nodup-cons, not-mem-nil}
 use mathlib.Core.List.{List·Memᴰ, List·Memᴰ·head, List·Memᴰ·append-cases, List·Memᴰ·eq-of-singleton, List·Memᴰ·not-nil}
 use mathlib.Core.List.{Memᴰ·append-left, Memᴰ·append-right}
 use Prim.Native.Nat.{ℕ, _+_, _*_, _/_, _%_, _≤_, _<_}
 use native.Mathlib.Omega.{arith}
 use lib.ListN.{length, take}
-use Rattle.serial.specs.Port.{Port}
+use Rattle.interrupts.specs.Interrupts.{Kind, receivedData, transmitterEmpty}
+use Rattle.serial.specs.Port.{Port, active}
 use Rattle.serial.specs.Layout.{size, portOf, spareRegisters, freshSpareRegisters}
-use Rattle.serial.specs.Sources.{Source, receiver, transmitter, enabled, marked}
 use Rattle.runs.specs.Reachable.{Reachable}
 use Rattle.serial.proofs.Bounds.{memory-fits}
-use Rattle.serial_saved.specs.Saved.{savedOf, isTold, ifTold, raisedAgain, Restore, restoreOf}
+use Rattle.serial_saved.specs.Saved.{savedOf, ifActive, raisedAgain, Restore, restoreOf}
 use Rattle.serial_saved.specs.Calls.{Saves, restoreWord, ReachableSaved, Restores}
 use Rattle.serial_saved.proofs.Raising.{at-most-two}
 use Rattle.serial_saved.proofs.Bringing.{too-many, enough}
@@ -50,7 +50,7 @@ module _ {regs pos ring saved waiting regs′ pos′ ring′ : List ℕ} {r : �
       let t = one (b .reachable) in
       (λ e. b .exact .0 (t .0 (sym (parts .0) ∙ e)), λ k. parts .0 ∙ t .1 (b .exact .1 k))
 
-  -- .. and "refused" exactly where more bytes wait than there is room for. Then nothing is raised, and else each source that is told.
+  -- .. and "refused" exactly where more bytes wait than there is room for. Then nothing is raised, and else each active kind.
   pub not-refused : length waiting ≤ size → (r / 0x1_0000 % 2 ≡ 0) × (r / 0x100_0000 ≡ length (raisedAgain (savedOf saved waiting)))
   not-refused h = rw (enough saved waiting (portOf regs pos ring) h) at (parts .1)
 
@@ -97,57 +97,51 @@ module _ {regs pos ring w saved w′ : List ℕ} {n : ℕ} (s : Saves regs pos r
 
 -- ---- What is raised again
 
-both-true : (a b : Bool) → ((a && b) ≡ true) ↔ ((a ≡ true) × (b ≡ true))
-both-true true b = (λ e. (refl, e), λ e. e .1)
-both-true false b = (λ e. absurd (false≢true e), λ e. e .0)
+in-active : (on : Bool) (x s : Kind) → List·Memᴰ s (ifActive on x) → (s ≡ x) × (on ≡ true)
+in-active true x s m = (List·Memᴰ·eq-of-singleton m, refl)
+in-active false x s m = absurd (List·Memᴰ·not-nil m)
 
-in-told : (told : Bool) (x s : Source) → List·Memᴰ s (ifTold told x) → (s ≡ x) × (told ≡ true)
-in-told true x s m = (List·Memᴰ·eq-of-singleton m, refl)
-in-told false x s m = absurd (List·Memᴰ·not-nil m)
+active-in : (on : Bool) (x : Kind) → on ≡ true → List·Memᴰ x (ifActive on x)
+active-in true x e = List·Memᴰ·head refl
+active-in false x e = absurd (false≢true e)
 
-told-in : (told : Bool) (x : Source) → told ≡ true → List·Memᴰ x (ifTold told x)
-told-in true x e = List·Memᴰ·head refl
-told-in false x e = absurd (false≢true e)
-
-apart : transmitter ≡ receiver → ⊥
+apart : transmitterEmpty ≡ receivedData → ⊥
 apart e = let z : _≡_ {A = ℕ} 0 1 = cc in omega arith
 
 module _ (p : Port) where
-  raised-told : (s : Source) → List·Memᴰ s (raisedAgain p) → isTold p s ≡ true
+  raised-active : (s : Kind) → List·Memᴰ s (raisedAgain p) → active p s ≡ true
   unfolding raisedAgain
-  raised-told s m = go (List·Memᴰ·append-cases (ifTold (isTold p transmitter) transmitter) m)
+  raised-active s m = go (List·Memᴰ·append-cases (ifActive (active p transmitterEmpty) transmitterEmpty) m)
     where
-      like : (x : Source) → (s ≡ x) × (isTold p x ≡ true) → isTold p s ≡ true
-      like x k = subst (λ (y : Source). isTold p y ≡ true) (sym (k .0)) (k .1)
+      like : (x : Kind) → (s ≡ x) × (active p x ≡ true) → active p s ≡ true
+      like x k = subst (λ (y : Kind). active p y ≡ true) (sym (k .0)) (k .1)
 
-      go : List·Memᴰ s (ifTold (isTold p transmitter) transmitter) ⊎ List·Memᴰ s (ifTold (isTold p receiver) receiver) → isTold p s ≡ true
-      go (inl m) = like transmitter (in-told (isTold p transmitter) transmitter s m)
-      go (inr m) = like receiver (in-told (isTold p receiver) receiver s m)
+      go : List·Memᴰ s (ifActive (active p transmitterEmpty) transmitterEmpty) ⊎ List·Memᴰ s (ifActive (active p receivedData) receivedData)
+          → active p s ≡ true
+      go (inl m) = like transmitterEmpty (in-active (active p transmitterEmpty) transmitterEmpty s m)
+      go (inr m) = like receivedData (in-active (active p receivedData) receivedData s m)
 
-  told-raised : (s : Source) → isTold p s ≡ true → List·Memᴰ s (raisedAgain p)
+  active-raised : (s : Kind) → active p s ≡ true → List·Memᴰ s (raisedAgain p)
   unfolding raisedAgain
-  told-raised transmitter e = Memᴰ·append-left (ifTold (isTold p receiver) receiver) (told-in (isTold p transmitter) transmitter e)
-  told-raised receiver e = Memᴰ·append-right (ifTold (isTold p transmitter) transmitter) (told-in (isTold p receiver) receiver e)
+  active-raised transmitterEmpty e = Memᴰ·append-left (ifActive (active p receivedData) receivedData) (active-in (active p transmitterEmpty) transmitterEmpty e)
+  active-raised receivedData e = Memᴰ·append-right (ifActive (active p transmitterEmpty) transmitterEmpty) (active-in (active p receivedData) receivedData e)
 
   none-twice : List·Nodup (raisedAgain p)
   unfolding raisedAgain
-  none-twice = go (isTold p transmitter) (isTold p receiver)
+  none-twice = go (active p transmitterEmpty) (active p receivedData)
     where
-      go : (a b : Bool) → List·Nodup (ifTold a transmitter ++ ifTold b receiver)
+      go : (a b : Bool) → List·Nodup (ifActive a transmitterEmpty ++ ifActive b receivedData)
       go true true = nodup-cons .1 (λ m. ∥∥₁-elim m ⊥-prop (λ d. apart (List·Memᴰ·eq-of-singleton d)), nodup-cons .1 (not-mem-nil, nodup-nil))
       go true false = nodup-cons .1 (not-mem-nil, nodup-nil)
       go false true = nodup-cons .1 (not-mem-nil, nodup-nil)
       go false false = nodup-nil
 
-  -- A source is raised again exactly if it is enabled and marked, each at most once, and so two at most.
-  pub raises-exactly-told : ((s : Source) → List·Memᴰ s (raisedAgain p) ↔ ((enabled p s ≡ true) × (marked p s ≡ true)))
-      × (List·Nodup (raisedAgain p) × (length (raisedAgain p) ≤ 2))
-  raises-exactly-told = (
-    λ s. let t = both-true (enabled p s) (marked p s) in (λ m. t .0 (raised-told s m), λ k. told-raised s (t .1 k)),
-    (none-twice, at-most-two p),
-  )
+  -- A kind is raised again exactly if it is active, each at most once, and so two at most.
+  pub raises-exactly-active : ((s : Kind) → List·Memᴰ s (raisedAgain p) ↔ (active p s ≡ true)) × (List·Nodup (raisedAgain p) × (length (raisedAgain p) ≤ 2))
+  raises-exactly-active = (λ s. (raised-active s, active-raised s), (none-twice, at-most-two p))
 
   -- Where both are, the transmitter is the first.
-  pub transmitter-first : isTold p transmitter ≡ true → isTold p receiver ≡ true → raisedAgain p ≡ transmitter ∷ receiver ∷ []
+  pub transmitter-first : active p transmitterEmpty ≡ true → active p receivedData ≡ true
+      → raisedAgain p ≡ transmitterEmpty ∷ receivedData ∷ []
   unfolding raisedAgain
   transmitter-first t r = rw (t, r)

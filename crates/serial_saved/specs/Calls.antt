@@ -10,8 +10,8 @@ use Rattle.serial.specs.Calls.{refusedBit, reachableBit, oneRaise}
 use Rattle.runs.specs.Reachable.{Reachable}
 use Rattle.serial_saved.specs.Saved.{savedOf, Restore, restoreOf}
 
--- The port is saved: all its registers as they lie, the spare ones too, and as many bytes as wait, the first to be read first. What lies behind
--- them in the memory for the bytes stays. The port itself is not lent to be changed.
+-- The port is saved: all its registers as they lie, the spare ones too, and as many bytes as wait, the first to be read first. What lies
+-- behind them in the memory for the bytes stays. The port itself is not lent to be changed.
 pub record Saves (regs pos ring waiting saved′ waiting′ : List ℕ) (r : ℕ) : Type 0 where
   pub registers : saved′ ≡ regs
   pub number : r ≡ length (portOf regs pos ring .waiting)
@@ -28,8 +28,8 @@ pub record ReachableSaved (saved waiting : List ℕ) : Type 0 where
   pub port : Reachable size (savedOf saved waiting)
   pub sparesZero : spareRegisters saved ≡ freshSpareRegisters
 
--- The port is restored: the memory holds it, from the ring's first place on. The bytes of the ring that do not wait are as they were, and so are
--- the spare positions; the spare registers are those that were saved. Where that is refused not a byte changes. What is restored is
+-- The port is restored: the memory holds it, from the ring's first place on. The bytes of the ring that do not wait are as they were, and
+-- so are the spare positions; the spare registers are those that were saved. Where that is refused not a byte changes. What is restored is
 -- believed whether or not a run can have come to it; the word says it.
 pub record Restored (regs pos ring saved waiting regs′ pos′ ring′ : List ℕ) (r : ℕ) (o : Restore) : Type 0 where
   pub reachable : Bool

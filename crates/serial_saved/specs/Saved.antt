@@ -1,26 +1,23 @@
 -- A serial port saved and restored: its registers, and the bytes that wait in their order.
 use Prim.Native.Nat.{ℕ}
-use mathlib.Core.Bool.{Bool, true, false, cond, _&&_}
+use mathlib.Core.Bool.{Bool, true, false, cond}
 use mathlib.Core.List.{List, [], _∷_, _++_}
 use lib.ListN.{length}
 use lib.Dec.{leb}
-use Rattle.serial.specs.Port.{Port, withReceiver}
+use Rattle.interrupts.specs.Interrupts.{Kind, receivedData, transmitterEmpty}
+use Rattle.serial.specs.Port.{Port, active, withReceiver}
 use Rattle.serial.specs.Layout.{portOf}
-use Rattle.serial.specs.Sources.{Source, receiver, transmitter, enabled, marked}
 
 -- What was saved is a port too, of which more bytes may wait than there is room for.
 unfoldable pub savedOf : List ℕ → List ℕ → Port
 savedOf regs waiting = let p = portOf regs [] [] in withReceiver p (p .iir) (p .lsr) waiting
 
--- The sources that are raised again, in this order: those that are enabled and marked. The line of the new host may never have seen it.
-abbrev pub isTold : Port → Source → Bool
-isTold p s = enabled p s && marked p s
+-- The kinds that are raised again, in this order: those that are active. The line of the new host may never have seen it.
+abbrev pub ifActive : Bool → Kind → List Kind
+ifActive active kind = cond active (kind ∷ []) []
 
-abbrev pub ifTold : Bool → Source → List Source
-ifTold told s = cond told (s ∷ []) []
-
-unfoldable pub raisedAgain : Port → List Source
-raisedAgain p = ifTold (isTold p transmitter) transmitter ++ ifTold (isTold p receiver) receiver
+unfoldable pub raisedAgain : Port → List Kind
+raisedAgain p = ifActive (active p transmitterEmpty) transmitterEmpty ++ ifActive (active p receivedData) receivedData
 
 -- What restoring does: the port after it, whether it was refused, how often the interrupt is raised.
 pub record Restore : Type 0 where
@@ -31,7 +28,8 @@ pub record Restore : Type 0 where
 abbrev pub fits : Port → Bool
 fits saved = leb (length (saved .waiting)) (saved .size)
 
--- Whatever was saved is believed, but for one thing: where more bytes wait than there is room for it is refused, and the port stays as it was.
+-- Whatever was saved is believed, but for one thing: where more bytes wait than there is room for it is refused, and the port stays as it
+-- was.
 unfoldable pub restoreOf : Port → Port → Restore
 restoreOf p saved =
     cond (fits saved) (record { port = saved; refused = false; raises = length (raisedAgain saved) })

@@ -17,6 +17,7 @@ ghost use mathlib.Core.Path.{_≡_};
 ghost use mathlib.Core.List.{List};
 ghost use Prim.Native.Nat.{ℕ};
 ghost use lib.ListN.{length};
+ghost use Rattle.common.specs.Lists.{some};
 ghost use Rattle.serial_saved.specs.Saved.{savedOf, raisedAgain};
 ghost use Rattle.serial_saved.specs.Calls.{Saves, Restores};
 
@@ -34,7 +35,8 @@ fn copy(from: &Regs, to: &mut Regs)
 
 // The port as it stands: its registers, and the bytes that wait. The answer: how many bytes wait.
 pub fn save(regs: &Regs, pos: &Pos, ring: &Ring, saved: &mut Regs, waiting: &mut Ring) -> u32
-    ensures { λ r. ⌜ Saves (now (regs .entry)) (now (pos .entry)) (now (ring .entry)) (now (waiting .entry)) (now (saved .exit)) (now (waiting .exit)) r ⌝ }
+    ensures { λ r. ⌜ Saves (now (regs .entry)) (now (pos .entry)) (now (ring .entry)) (now (waiting .entry))
+        (now (saved .exit)) (now (waiting .exit)) r ⌝ }
 {
     let n = count(pos);
     copy(regs, saved);
@@ -44,7 +46,7 @@ pub fn save(regs: &Regs, pos: &Pos, ring: &Ring, saved: &mut Regs, waiting: &mut
 
 // How often the interrupt is raised again; `waits` says whether a byte waits.
 fn raises(saved: &Regs, waits: bool) -> u32
-    ensures { λ r. ⌜ ((waiting : List ℕ) → r ≡ length (raisedAgain (savedOf (now (saved .entry)) waiting))) ⌝ }
+    ensures { λ r. ⌜ ((waiting : List ℕ) → some waiting ≡ waits → r ≡ length (raisedAgain (savedOf (now (saved .entry)) waiting))) ⌝ }
 {
     interrupts::raised_again(saved[IER], saved[IIR], waits)
 }
@@ -52,7 +54,8 @@ fn raises(saved: &Regs, waits: bool) -> u32
 // What was saved becomes the port. The answer: whether a run from a fresh port can have come to it,
 // and the raises. More bytes than the port has room for are refused.
 pub fn restore(regs: &mut Regs, pos: &mut Pos, ring: &mut Ring, saved: &Regs, waiting: &[u8]) -> u32
-    ensures { λ r. ⌜ Restores (now (regs .entry)) (now (pos .entry)) (now (ring .entry)) (now (saved .entry)) (now (waiting .entry)) (now (regs .exit)) (now (pos .exit)) (now (ring .exit)) r ⌝ }
+    ensures { λ r. ⌜ Restores (now (regs .entry)) (now (pos .entry)) (now (ring .entry)) (now (saved .entry)) (now (waiting .entry))
+        (now (regs .exit)) (now (pos .exit)) (now (ring .exit)) r ⌝ }
 {
     let len = waiting.len();
     if SIZE < len {

@@ -1,5 +1,4 @@
 // Whether a run from a fresh port can have come to what was saved, clause by clause.
-use crate::SIZE;
 use serial::memory;
 use serial::memory::IER;
 use serial::memory::IIR;
@@ -15,9 +14,7 @@ ghost use lib.ListN.{length};
 ghost use Rattle.common.specs.Bytes.{Bytes};
 ghost use Rattle.common.specs.Lists.{some};
 ghost use Rattle.serial.specs.Layout.{size};
-ghost use Rattle.runs.specs.Reachable.{Marks};
 ghost use Rattle.serial_saved.specs.Calls.{ReachableSaved};
-ghost use Rattle.serial_saved.specs.Inside.{TransmitterRead, ReceiverRead};
 
 fn nothing() {}
 
@@ -26,65 +23,6 @@ fn all_bytes(x: &[u8])
     ensures { λ r. ⌜ Bytes (now (x .entry)) ⌝ }
 {
     nothing();
-}
-
-// IIR is one of four numbers, and received data is marked only while a byte waits, of n.
-fn are_marks(iir: u8, n: usize) -> bool
-    ensures { λ r. ⌜ ((q : List ℕ) → length q ≡ n → (r ≡ true) ↔ Marks iir q) ⌝ }
-{
-    match iir {
-        1 => {
-            return true;
-        }
-        2 => {
-            return true;
-        }
-        4 => {
-            return 0 < n;
-        }
-        6 => {
-            return 0 < n;
-        }
-        _ => {
-            return false;
-        }
-    }
-}
-
-// The transmitter is enabled and not marked, and received data is marked: so that is enabled.
-fn is_transmitter_read(ier: u8, iir: u8) -> bool
-    ensures { λ r. ⌜ (r ≡ true) ↔ TransmitterRead ier iir ⌝ }
-{
-    if ier & 0x02 == 0 {
-        return true;
-    }
-    if iir & 0x02 != 0 {
-        return true;
-    }
-    if iir & 0x04 == 0 {
-        return true;
-    }
-    ier & 0x01 != 0
-}
-
-// Received data is enabled and not marked, and the transmitter is marked and not enabled: so of the
-// n bytes that wait, if any, one was read, and there is room for it.
-fn is_receiver_read(ier: u8, iir: u8, n: usize) -> bool
-    ensures { λ r. ⌜ ((q : List ℕ) → length q ≡ n → (r ≡ true) ↔ ReceiverRead ier iir q) ⌝ }
-{
-    if ier & 0x01 == 0 {
-        return true;
-    }
-    if iir & 0x04 != 0 {
-        return true;
-    }
-    if iir & 0x02 == 0 {
-        return true;
-    }
-    if ier & 0x02 != 0 {
-        return true;
-    }
-    n < SIZE
 }
 
 // LSR says whether a byte waits, of n, and that the transmitter is empty.
@@ -116,13 +54,7 @@ pub fn is_reachable(saved: &Regs, waiting: &[u8]) -> bool
     if saved[LSR] != status(n) {
         return false;
     }
-    if !are_marks(iir, n) {
-        return false;
-    }
-    if !is_transmitter_read(ier, iir) {
-        return false;
-    }
-    if !is_receiver_read(ier, iir, n) {
+    if iir != interrupts::settled(ier, iir, n != 0) {
         return false;
     }
     memory::are_spares_zero(saved)

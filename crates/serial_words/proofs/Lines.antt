@@ -9,7 +9,8 @@ use Rattle.words.specs.Text.{text}
 use Rattle.serial_words.specs.Lines.{lineOf, savedLineOf}
 use Rattle.serial_words.specs.declared.line.Line.{Line}
 use Rattle.serial_words.specs.declared.line.Line.the-variants.{Save, Kept, OfPort}
-use Rattle.serial_words.specs.declared.line.Access.the-variants.{Write, Read, InputNone, InputBytes, Room, State, RestoreNone, RestoreBytes, Unknown}
+use Rattle.serial_words.specs.declared.line.Access.the-variants.{Write, Read, InputNone, InputBytes, Room, State, Level, RestoreNone}
+use Rattle.serial_words.specs.declared.line.Access.the-variants.{RestoreBytes, Unknown}
 
 pub is-write : (line : List ℕ) {offset value : ℕ} → fitsOf (text "w OO VV") line ≡ true → offset ≡ byteAt line 2 → value ≡ byteAt line 5
     → OfPort (Write offset value) ≡ lineOf line
@@ -41,9 +42,14 @@ module _ (line : List ℕ) (no-write : fitsOf (text "w OO VV") line ≡ false) w
           unfolding lineOf
           is-state f = rw (no-write, no-read, no-empty, no-bytes, no-room, f) refl
 
-          pub is-saved : {l : Line} → fitsOf (text "state") line ≡ false → l ≡ savedLineOf line → l ≡ lineOf line
-          unfolding lineOf
-          is-saved f e = rw (no-write, no-read, no-empty, no-bytes, no-room, f) e
+          module _ (no-state : fitsOf (text "state") line ≡ false) where
+            pub is-line : fitsOf (text "line") line ≡ true → OfPort Level ≡ lineOf line
+            unfolding lineOf
+            is-line f = rw (no-write, no-read, no-empty, no-bytes, no-room, no-state, f) refl
+
+            pub is-saved : {l : Line} → fitsOf (text "line") line ≡ false → l ≡ savedLineOf line → l ≡ lineOf line
+            unfolding lineOf
+            is-saved f e = rw (no-write, no-read, no-empty, no-bytes, no-room, no-state, f) e
 
 pub is-save : (line : List ℕ) → fitsOf (text "save") line ≡ true → Save ≡ savedLineOf line
 unfolding savedLineOf

@@ -49,7 +49,8 @@ module _ {out out′ : List ℕ} {at r : ℕ} (n : ℕ) where
 bytes-more : (bytes : List ℕ) (b : ℕ) → bytesSay (bytes ++ (b ∷ [])) ≡ bytesSay bytes ++ digitsOf b
 unfolding bytesSay
 bytes-more [] b = append-nil (digitsOf b)
-bytes-more (x ∷ bytes) b = ap (λ (l : List ℕ). digitsOf x ++ l) (bytes-more bytes b) ∙ sym (append-assoc (digitsOf x) (bytesSay bytes) (digitsOf b))
+bytes-more (x ∷ bytes) b = ap (λ (l : List ℕ). digitsOf x ++ l) (bytes-more bytes b)
+    ∙ sym (append-assoc (digitsOf x) (bytesSay bytes) (digitsOf b))
 
 pub none-yet : (ring : List ℕ) (start : ℕ) (out : List ℕ) (at : ℕ) → Puts out at (bytesSay (queue places ring start 0)) out at
 unfolding bytesSay queue
@@ -63,7 +64,8 @@ one-more ring start i p q =
     let e : queue places ring start (i + 1) ≡ queue places ring start i ++ (b ∷ []) = queue-split places ring start i 1 in
     rw (e, bytes-more (queue places ring start i) b) (both p q)
 
-pub all-there : (ring : List ℕ) (start : ℕ) {i n : ℕ} {out out′ : List ℕ} {at r : ℕ} → i ≡ n → Puts out at (bytesSay (queue places ring start i)) out′ r
+pub all-there : (ring : List ℕ) (start : ℕ) {i n : ℕ} {out out′ : List ℕ} {at r : ℕ} → i ≡ n
+    → Puts out at (bytesSay (queue places ring start i)) out′ r
     → Puts out at (bytesSay (queue places ring start n)) out′ r
 all-there ring start e p = rw (← e) p
 
@@ -80,7 +82,8 @@ module _ (ring : List ℕ) (start : ℕ) {n : ℕ} {out o₁ o₂ out′ : List 
   pub none-wait : n ≡ 0 → Puts o₂ b (text " -\n") out′ r → Puts out at (waitingSay (queue places ring start n)) out′ r
   none-wait e s = rw (queue-length places ring start n, none-in ring start n e) (both (both p q) s)
 
-  pub some-wait : {m : ℕ} {o₃ o₄ : List ℕ} {c d : ℕ} → (n ≡ 0 → ⊥) → m ≡ n → Puts o₂ b (text " ") o₃ c → Puts o₃ c (bytesSay (queue places ring start m)) o₄ d → Puts o₄ d (text "\n") out′ r
+  pub some-wait : {m : ℕ} {o₃ o₄ : List ℕ} {c d : ℕ} → (n ≡ 0 → ⊥) → m ≡ n → Puts o₂ b (text " ") o₃ c
+      → Puts o₃ c (bytesSay (queue places ring start m)) o₄ d → Puts o₄ d (text "\n") out′ r
       → Puts out at (waitingSay (queue places ring start n)) out′ r
   some-wait h e s t u =
       rw (queue-length places ring start n, some-in ring start n h) (both (both p q) (both (both s (all-there ring start e t)) u))
@@ -101,7 +104,8 @@ nine-said regs p q s pos ring =
 
 -- a port of which these are the positions: a place beyond the ring goes round, and no more bytes wait than its size
 pub port-said : (regs ring : List ℕ) (start count : ℕ) {x n : ℕ} {out o₁ out′ : List ℕ} {at a r : ℕ} → x ≡ start → n ≡ min count size
-    → ((pos ring : List ℕ) → Puts out at (registersSay (portOf regs pos ring)) o₁ a) → Puts o₁ a (waitingSay (queue places ring (x % places) n)) out′ r
+    → ((pos ring : List ℕ) → Puts out at (registersSay (portOf regs pos ring)) o₁ a)
+    → Puts o₁ a (waitingSay (queue places ring (x % places) n)) out′ r
     → Puts out at (portSays (portOf regs (start ∷ count ∷ []) ring)) out′ r
 unfolding portOf
 port-said regs ring start count {x} {n} e f p q =

@@ -1,4 +1,5 @@
--- What the functions of the code promise each other of a word's parts. No reader has to believe it: it is proved, and no answer speaks of it.
+-- What the functions of the code promise each other of a word's parts. No reader has to believe it: it is proved, and no answer speaks of
+-- it.
 use Prim.Native.Nat.{ℕ, _/_, _%_}
 use mathlib.Core.Bool.{cond}
 use mathlib.Core.List.{List, _++_}

@@ -7,7 +7,8 @@ use Rattle.words.specs.Pattern.{fitsOf, beginsLike}
 use Rattle.words.specs.Text.{text}
 use Rattle.serial_words.specs.declared.line.Line.{Line}
 use Rattle.serial_words.specs.declared.line.Line.the-variants.{Save, Kept, OfPort}
-use Rattle.serial_words.specs.declared.line.Access.the-variants.{Write, Read, InputNone, InputBytes, Room, State, RestoreNone, RestoreBytes, Unknown}
+use Rattle.serial_words.specs.declared.line.Access.the-variants.{Write, Read, InputNone, InputBytes, Room, State, Level, RestoreNone}
+use Rattle.serial_words.specs.declared.line.Access.the-variants.{RestoreBytes, Unknown}
 
 unfoldable pub savedLineOf : List ℕ → Line
 savedLineOf line =
@@ -22,4 +23,6 @@ lineOf line =
     (cond (fitsOf (text "r OO") line) (OfPort (Read (byteAt line 2)))
     (cond (fitsOf (text "b") line) (OfPort InputNone)
     (cond (beginsLike (text "b ") line) (OfPort InputBytes)
-    (cond (fitsOf (text "room") line) (OfPort Room) (cond (fitsOf (text "state") line) (OfPort State) (savedLineOf line))))))
+    (cond (fitsOf (text "room") line) (OfPort Room)
+    (cond (fitsOf (text "state") line) (OfPort State)
+    (cond (fitsOf (text "line") line) (OfPort Level) (savedLineOf line)))))))

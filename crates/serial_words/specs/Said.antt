@@ -28,8 +28,8 @@ nextByte byte = text " " ++ digitsOf byte
 
 abbrev pub registersSay : Port → List ℕ
 registersSay p =
-    nextByte (p .settings .dll) ++ nextByte (p .settings .dlm) ++ nextByte (p .settings .ier) ++ nextByte (p .iir) ++ nextByte (p .settings .lcr) ++
-    nextByte (p .lsr) ++ nextByte (p .settings .mcr) ++ nextByte (p .msr) ++ nextByte (p .settings .scr)
+    nextByte (p .settings .dll) ++ nextByte (p .settings .dlm) ++ nextByte (p .settings .ier) ++ nextByte (p .iir) ++
+    nextByte (p .settings .lcr) ++ nextByte (p .lsr) ++ nextByte (p .settings .mcr) ++ nextByte (p .msr) ++ nextByte (p .settings .scr)
 
 unfoldable pub bytesSay : List ℕ → List ℕ
 bytesSay [] = []

@@ -22,6 +22,8 @@ pub enum Access {
     InputBytes,
     Room,
     State,
+    // Whether the interrupt line is high.
+    Level,
     // `restore` with registers, without and with bytes.
     RestoreNone,
     RestoreBytes,
@@ -48,6 +50,9 @@ pub fn parse(line: &[u8]) -> Line
     }
     if fits(line, b"state") {
         return Line::OfPort(Access::State);
+    }
+    if fits(line, b"line") {
+        return Line::OfPort(Access::Level);
     }
     parse_saved(line)
 }

@@ -3,7 +3,7 @@ use serial::memory::Pos;
 use serial::memory::Regs;
 use serial::memory::Ring;
 ghost use Rattle.serial.specs.Port.{readOf, writeOf, inputOf};
-ghost use Rattle.serial.specs.Calls.{MakesFresh, Reads, Writes, TakesInput, HasRoom};
+ghost use Rattle.serial.specs.Calls.{MakesFresh, Reads, Writes, TakesInput, HasRoom, IsHigh};
 ghost use Rattle.play.specs.Play.{Plays};
 ghost use Rattle.serial_saved.specs.Calls.{Saves, Restores};
 ghost use Rattle.serial_form.specs.Form.{readForm};
@@ -67,6 +67,13 @@ pub extern "C" fn serialpost_raw_serial_room(pos: &Pos) -> u32
     ensures { λ r. ⌜ HasRoom (now (pos .entry)) r ⌝ }
 {
     serial::room(pos)
+}
+
+#[no_mangle]
+pub extern "C" fn serialpost_raw_serial_line(regs: &Regs, pos: &Pos) -> bool
+    ensures { λ r. ⌜ IsHigh (now (regs .entry)) (now (pos .entry)) r ⌝ }
+{
+    serial::line(regs, pos)
 }
 
 #[no_mangle]

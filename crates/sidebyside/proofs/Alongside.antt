@@ -25,7 +25,8 @@ module _ (x : Pair) (Sound : x .Device → Type 0) (Agrees : x .Device → x .Op
       next : x .Device
       next = x .deviceNext d o
 
-      go : Agrees d o ⊎ x .Row d o → SameRun x next (x .chipOf next) os ⊎ Meets x next (x .chipOf next) os → SameRun x d (x .chipOf d) (o ∷ os) ⊎ Meets x d (x .chipOf d) (o ∷ os)
+      go : Agrees d o ⊎ x .Row d o → SameRun x next (x .chipOf next) os ⊎ Meets x next (x .chipOf next) os
+          → SameRun x d (x .chipOf d) (o ∷ os) ⊎ Meets x d (x .chipOf d) (o ∷ os)
       go (inr row) rest = inr (now row)
       go (inl a) (inl run) = inl (alike d o a, subst (λ (c : x .Chip). SameRun x next c os) (same d o a) run)
       go (inl a) (inr meets) = inr (later (λ row. real d k o row a) (alike d o a) (subst (λ (c : x .Chip). Meets x next c os) (same d o a) meets))

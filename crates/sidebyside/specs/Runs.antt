@@ -4,8 +4,8 @@ use mathlib.Core.Path.{_≡_}
 use mathlib.Core.List.{List, [], _∷_}
 use Rattle.sidebyside.specs.Answers.{Said, says, silent, none, Answer, answers}
 
--- What has to be known of the two. An operation makes another state of each and has an answer; a state of the device is some state of the chip;
--- a call may look alike from outside; a call may be in a row of the list of differences.
+-- What has to be known of the two. An operation makes another state of each and has an answer; a state of the device is some state of the
+-- chip; a call may look alike from outside; a call may be in a row of the list of differences.
 pub record Pair : Type 1 where
   pub Device : Type 0
   pub Chip : Type 0
@@ -26,7 +26,8 @@ module _ (x : Pair) where
   SameRun d c [] = Unit {0}
   SameRun d c (o ∷ os) = x .Alike d c o × SameRun (x .deviceNext d o) (x .chipNext c o) os
 
-  -- A run meets a row: a call that is in one, the first of them, and the calls before it look alike. Nothing is said of the calls behind it.
+  -- A run meets a row: a call that is in one, the first of them, and the calls before it look alike. Nothing is said of the calls behind
+  -- it.
   pub data Meets : x .Device → x .Chip → List (x .Op) → Type 0 where
     now : {d : x .Device} {c : x .Chip} {o : x .Op} {os : List (x .Op)} → x .Row d o → Meets d c (o ∷ os)
     later : {d : x .Device} {c : x .Chip} {o : x .Op} {os : List (x .Op)} → (x .Row d o → ⊥) → x .Alike d c o
@@ -57,7 +58,9 @@ module _ (x : Pair) where
   chipLast c o [] = x .chipReply c o
   chipLast c o (next ∷ os) = chipLast (x .chipNext c o) next os
 
-  -- ---- A run of the chip with what the manual says to each of its operations: nothing, since there is no answer; a number; or it is silent
+  -- ---- A run of the chip with what the manual says to each of its operations
+
+  -- Nothing, since there is no answer; a number; or it is silent.
 
   pub data Step : Type 0 where
     does : x .Op → Step
@@ -83,8 +86,10 @@ module _ (x : Pair) where
   abbrev pub Told : x .Chip → List Step → Type 0
   Told c steps = replies c (operations steps) ≡ expected steps
 
-  -- ---- A row, shown by a run from a state of the device: after `before` the call is in a row, and to the last call of `behind`, or to the call itself
-  -- where there is none, the device answers `ours` and the manual says `theirs`. The chip has run beside from the same state.
+  -- ---- A row, shown by a run from a state of the device
+
+  -- After `before` the call is in a row, and to the last call of `behind`, or to the call itself where there is none, the device answers `ours`
+  -- and the manual says `theirs`. The chip has run beside from the same state.
   pub record Shown (begins : x .Device) (before : List (x .Op)) (call : x .Op) (behind : List (x .Op)) (ours theirs : ℕ) : Type 0 where
     pub row : x .Row (deviceAfter begins before) call
     pub device : deviceLast (deviceAfter begins before) call behind ≡ answers ours

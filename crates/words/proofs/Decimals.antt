@@ -60,7 +60,8 @@ module _ (word : List ℕ) (i n : ℕ) where
   pub fails : i < length word → longerBy n (getD word i 0) ≡ Bad → longer (drop i word) (Is n) ≡ Bad
   fails h e = along h ∙ rw e (stays-bad (drop (i + 1) word))
 
-  pub goes-on : (m : ℕ) → i < length word → longerBy n (getD word i 0) ≡ Is m → longer (drop i word) (Is n) ≡ longer (drop (i + 1) word) (Is m)
+  pub goes-on : (m : ℕ) → i < length word → longerBy n (getD word i 0) ≡ Is m
+      → longer (drop i word) (Is n) ≡ longer (drop (i + 1) word) (Is m)
   goes-on m h e = along h ∙ rw e
 
   pub ends : length word ≤ i → longer (drop i word) (Is n) ≡ Is n
@@ -99,6 +100,7 @@ fewest-digits (suc most) (suc (suc k)) n h f =
     let tenth : Fewest 10 1 (n / 10) (suc k) = (omega arith, omega (arith, high), λ g. rw one-less (omega (arith, rw (pow-suc 10 k) at low))) in
     rw (le-ltb n 10 (omega (arith, one-le-pow k 10 (omega arith), rw (pow-suc 10 k) at low)), ← fewest-digits most (suc k) (n / 10) (omega arith) tenth, last-digit n) refl
 
-pub put-fewest : {n k : ℕ} {word out out′ : List ℕ} {at r : ℕ} → k ≤ 20 → Fewest 10 1 n k → word ≡ digits 10 k n → Puts out at word out′ r → Puts out at (decimalOf n) out′ r
+pub put-fewest : {n k : ℕ} {word out out′ : List ℕ} {at r : ℕ} → k ≤ 20 → Fewest 10 1 n k → word ≡ digits 10 k n → Puts out at word out′ r
+    → Puts out at (decimalOf n) out′ r
 unfolding decimalOf
 put-fewest {n} {k} h f e p = rw (← fewest-digits 20 k n h f, ← e) p

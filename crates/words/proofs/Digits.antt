@@ -40,7 +40,8 @@ pub two : (high low : ℕ) {h l : ℕ} → h ≡ valueOf high → l ≡ valueOf 
 unfolding byteOf
 two high low e f = rw (e, f)
 
-pub two-at : (line : List ℕ) (i : ℕ) {high low byte : ℕ} → high ≡ getD line i 0 → low ≡ getD line (i + 1) 0 → byte ≡ byteOf high low → byte ≡ byteAt line i
+pub two-at : (line : List ℕ) (i : ℕ) {high low byte : ℕ} → high ≡ getD line i 0 → low ≡ getD line (i + 1) 0 → byte ≡ byteOf high low
+    → byte ≡ byteAt line i
 unfolding byteAt
 two-at line i e f g = rw (g, e, f)
 
@@ -59,15 +60,18 @@ unfolding digitOf
 large n h = rw (le-ltb n 10 h)
 
 -- two characters that are put are the digits of a byte
-pub digits-put : (byte : ℕ) {out out′ : List ℕ} {at r high low : ℕ} → high ≡ digitOf (byte / 16) → low ≡ digitOf (byte % 16) → Puts out at (high ∷ low ∷ []) out′ r → Puts out at (digitsOf byte) out′ r
+pub digits-put : (byte : ℕ) {out out′ : List ℕ} {at r high low : ℕ} → high ≡ digitOf (byte / 16) → low ≡ digitOf (byte % 16)
+    → Puts out at (high ∷ low ∷ []) out′ r → Puts out at (digitsOf byte) out′ r
 unfolding digitsOf
 digits-put byte e f p = rw (← e, ← f) p
 
-pub half-put : (n : ℕ) {out out′ out″ : List ℕ} {at m r : ℕ} → Puts out at (digitsOf (n / 0x100)) out′ m → Puts out′ m (digitsOf (n % 0x100)) out″ r → Puts out at (halfDigits n) out″ r
+pub half-put : (n : ℕ) {out out′ out″ : List ℕ} {at m r : ℕ} → Puts out at (digitsOf (n / 0x100)) out′ m
+    → Puts out′ m (digitsOf (n % 0x100)) out″ r → Puts out at (halfDigits n) out″ r
 unfolding halfDigits
 half-put n p q = both p q
 
-pub word-put : (n : ℕ) {out out′ out″ : List ℕ} {at m r : ℕ} → Puts out at (halfDigits (n / 0x1_0000)) out′ m → Puts out′ m (halfDigits (n % 0x1_0000)) out″ r → Puts out at (wordDigits n) out″ r
+pub word-put : (n : ℕ) {out out′ out″ : List ℕ} {at m r : ℕ} → Puts out at (halfDigits (n / 0x1_0000)) out′ m
+    → Puts out′ m (halfDigits (n % 0x1_0000)) out″ r → Puts out at (wordDigits n) out″ r
 unfolding wordDigits
 word-put n p q = both p q
 

@@ -23,16 +23,19 @@ other-length (p ∷ pattern) (c ∷ line) h = after (standsFor p c) (other-lengt
 
 module _ (pattern line : List ℕ) (i : ℕ) where
   -- from a place on: the characters there, and the rest
-  along : i < length pattern → i < length line → fitsOf (drop i pattern) (drop i line) ≡ standsFor (getD pattern i 0) (getD line i 0) && fitsOf (drop (i + 1) pattern) (drop (i + 1) line)
+  along : i < length pattern → i < length line
+      → fitsOf (drop i pattern) (drop i line) ≡ standsFor (getD pattern i 0) (getD line i 0) && fitsOf (drop (i + 1) pattern) (drop (i + 1) line)
   unfolding fitsOf
   along p l = rw (add-one, drop-cons pattern i 0 p, drop-cons line i 0 l)
 
   -- a character that its pattern does not stand for
-  pub fails : i < length pattern → i < length line → standsFor (getD pattern i 0) (getD line i 0) ≡ false → fitsOf (drop i pattern) (drop i line) ≡ false
+  pub fails : i < length pattern → i < length line → standsFor (getD pattern i 0) (getD line i 0) ≡ false
+      → fitsOf (drop i pattern) (drop i line) ≡ false
   fails p l e = along p l ∙ rw e
 
   -- one that it stands for
-  pub goes-on : i < length pattern → i < length line → standsFor (getD pattern i 0) (getD line i 0) ≡ true → fitsOf (drop i pattern) (drop i line) ≡ fitsOf (drop (i + 1) pattern) (drop (i + 1) line)
+  pub goes-on : i < length pattern → i < length line → standsFor (getD pattern i 0) (getD line i 0) ≡ true
+      → fitsOf (drop i pattern) (drop i line) ≡ fitsOf (drop (i + 1) pattern) (drop (i + 1) line)
   goes-on p l e = along p l ∙ rw e
 
   -- the end of both
@@ -47,6 +50,7 @@ unfolding beginsLike
 shorter pattern line h =
     sym (other-length pattern (take (length pattern) line) (λ e. let l = length-take (length pattern) line in omega arith))
 
-pub begins-at : (pattern line : List ℕ) {r : Bool} → r ≡ fitsOf pattern (take (length pattern - 0) (drop 0 line)) → r ≡ beginsLike pattern line
+pub begins-at : (pattern line : List ℕ) {r : Bool} → r ≡ fitsOf pattern (take (length pattern - 0) (drop 0 line))
+    → r ≡ beginsLike pattern line
 unfolding beginsLike
 begins-at pattern line e = let z : length pattern - 0 ≡ length pattern = omega arith in rw z at e

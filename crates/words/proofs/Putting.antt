@@ -14,7 +14,8 @@ pub nothing : (out : List ℕ) (at : ℕ) → Puts out at [] out (at + 0)
 nothing out at = record { next = omega arith; bytes = rw add-zero (sym (append-nil (take at out))) }
 
 -- one more byte of a word
-pub one-more : (out : List ℕ) (at : ℕ) (word out′ : List ℕ) (i : ℕ) → i < length word → at + i < length out′ → Puts out at (take i word) out′ (at + i) → Puts out at (take (i + 1) word) (set out′ (at + i) (getD word i 0)) (at + (i + 1))
+pub one-more : (out : List ℕ) (at : ℕ) (word out′ : List ℕ) (i : ℕ) → i < length word → at + i < length out′
+    → Puts out at (take i word) out′ (at + i) → Puts out at (take (i + 1) word) (set out′ (at + i) (getD word i 0)) (at + (i + 1))
 one-more out at word out′ i h l p =
     record {
       next = let e : length (take (i + 1) word) ≡ i + 1 = length-take-le (i + 1) word (omega arith) in omega arith;
@@ -27,11 +28,13 @@ one-more out at word out′ i h l p =
     }
 
 -- all of a word is put
-pub whole : (out : List ℕ) (at : ℕ) (word out′ : List ℕ) (i r : ℕ) → length word ≤ i → Puts out at (take i word) out′ r → Puts out at word out′ r
+pub whole : (out : List ℕ) (at : ℕ) (word out′ : List ℕ) (i r : ℕ) → length word ≤ i → Puts out at (take i word) out′ r
+    → Puts out at word out′ r
 whole out at word out′ i r h p = rw (take-all i word h) at p
 
 -- one word after another
-pub both : {out : List ℕ} {at : ℕ} {a out′ : List ℕ} {m : ℕ} {b out″ : List ℕ} {n : ℕ} → Puts out at a out′ m → Puts out′ m b out″ n → Puts out at (a ++ b) out″ n
+pub both : {out : List ℕ} {at : ℕ} {a out′ : List ℕ} {m : ℕ} {b out″ : List ℕ} {n : ℕ} → Puts out at a out′ m → Puts out′ m b out″ n
+    → Puts out at (a ++ b) out″ n
 both {out} {at} {a} {out′} {m} {b} {out″} {n} p q =
     record {
       next = simp length-append (omega (arith, p .next, q .next));

@@ -38,6 +38,7 @@ unsafe extern "C" {
         length: usize,
     ) -> u32;
     safe fn serialpost_raw_serial_room(pos: &Pos) -> u32;
+    safe fn serialpost_raw_serial_line(regs: &Regs, pos: &Pos) -> bool;
     safe fn serialpost_raw_serial_save(
         regs: &Regs,
         pos: &Pos,
@@ -230,6 +231,11 @@ impl Port {
     pub(crate) fn room(&self) -> usize {
         Answer(serialpost_raw_serial_room(&self.pos)).number()
     }
+
+    #[inline]
+    pub(crate) fn line(&self) -> bool {
+        serialpost_raw_serial_line(&self.regs, &self.pos)
+    }
 }
 
 /// The memory of a clock: load, match, mask, raw status, the offset's low and high half, and two spare words.
@@ -319,7 +325,7 @@ mod tests {
     use super::*;
 
     /// The interface that this crate is written for.
-    const VERSION: u32 = 1;
+    const VERSION: u32 = 2;
 
     #[test]
     fn the_library_has_the_interface_that_is_declared_here() {

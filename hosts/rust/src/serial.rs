@@ -33,7 +33,8 @@ pub struct SerialState {
     pub baud_divisor_high: u8,
     /// IER: which kinds of interrupt are enabled.
     pub interrupt_enable: u8,
-    /// IIR: which kinds are marked.
+    /// IIR: of it only bit 0x02, the transmitter's pending interrupt, has a meaning. A port that is written down shows
+    /// a bit for each active kind, so that vm-superio, given it, raises what is due.
     pub interrupt_identification: u8,
     /// LCR.
     pub line_control: u8,
@@ -53,8 +54,9 @@ impl SerialState {
     /// Whether some run of this port from a fresh one leaves this state. [`Serial::from_state`] takes any other all
     /// the same, and its port may then be written down as one that no run leaves.
     ///
-    /// So may a port of vm-superio before 0.8.2, where a write to the interrupt enable register announces nothing: it
-    /// comes to IER 02 with IIR 04 while a byte waits, for one.
+    /// A port of vm-superio may be such a one: its IIR keeps what the guest has disabled since, IER 00 with IIR 06 for
+    /// one, and forgets a byte that waits once the guest has read IIR. It is restored all the same, and no interrupt
+    /// that was due is lost.
     ///
     /// vm-superio does not have this.
     pub fn is_reachable(&self) -> bool {
@@ -176,8 +178,8 @@ impl<T: Trigger, EV: SerialEvents, W: Write> Serial<T, EV, W> {
 
     /// The port that was written down as `state`, on a new line and a new writer.
     ///
-    /// An interrupt that is enabled and marked is raised again, the empty transmitter's first, then that of received
-    /// data: the new line may never have seen it. Where that fails there is no port and no further raise.
+    /// The interrupt is raised once for each kind that is enabled and pending: the new line may never have seen it.
+    /// Where that fails there is no port and no further raise.
     ///
     /// A state with more than 64 bytes is refused with [`Error::FullFifo`], and nothing is raised.
     ///
@@ -279,6 +281,45 @@ impl<T: Trigger, EV: SerialEvents, W: Write> Serial<T, EV, W> {
     /// How many bytes [`enqueue_raw_bytes`](Self::enqueue_raw_bytes) could take now.
     pub fn fifo_capacity(&self) -> usize {
         self.port.room()
+    }
+
+    /// Whether the interrupt line is high: something that is enabled is pending.
+    ///
+    /// A monitor whose interrupt input is edge-triggered, or an event file descriptor, signals in [`Trigger::trigger`],
+    /// which is called once for each raise, and does not ask this. One whose interrupt controller is level-triggered
+    /// (Arm's GIC, a PC's IO-APIC in level mode) sets the line to this answer after each call, and needs no raises: its
+    /// trigger does nothing. The line never rises without a raise, a call that raises leaves it high, and it falls when
+    /// nothing that is enabled is pending.
+    ///
+    /// A raise tells that a kind of interrupt has become active, not how many bytes wait. A driver that reads one byte
+    /// for each interrupt needs the level:
+    ///
+    /// ```
+    /// # use serialpost::{Serial, Trigger};
+    /// # use std::cell::Cell;
+    /// # struct Raises(Cell<u32>);
+    /// # impl Trigger for Raises {
+    /// #     type E = ();
+    /// #     fn trigger(&self) -> Result<(), ()> {
+    /// #         self.0.set(self.0.get() + 1);
+    /// #         Ok(())
+    /// #     }
+    /// # }
+    /// # let mut port = Serial::new(Raises(Cell::new(0)), Vec::new());
+    /// # let raises = |port: &Serial<Raises, _, _>| port.interrupt_evt().0.get();
+    /// port.write(1, 0x01).unwrap(); // received data is enabled
+    /// port.enqueue_raw_bytes(b"ab").unwrap();
+    /// assert_eq!(raises(&port), 1);
+    ///
+    /// assert_eq!(port.read(0), b'a');
+    /// port.enqueue_raw_bytes(b"c").unwrap();
+    /// assert_eq!(raises(&port), 1); // no raise, for `b` has been waiting
+    /// assert!(port.interrupt_line());
+    /// ```
+    ///
+    /// vm-superio does not have this.
+    pub fn interrupt_line(&self) -> bool {
+        self.port.line()
     }
 
     /// Bytes for the guest to read. As many as fit are taken, from the first on, and the answer is their number;

@@ -46,7 +46,7 @@ fn restored(state: &SerialState, fails_at: u32) -> (Result<Port, Error<&'static 
     (port, line.raised.get())
 }
 
-/// A state in which both kinds are enabled and marked.
+/// A state in which both kinds are enabled and pending.
 fn two_kinds() -> SerialState {
     SerialState {
         interrupt_enable: 0x03,
@@ -118,26 +118,78 @@ fn each_register_is_its_own() {
     let mut port = restored(&state, 0).0.unwrap();
     assert_eq!(port.state(), state);
     let shown: Vec<u8> = (1..8).chain([DATA]).map(|o| port.read(o)).collect();
-    assert_eq!(shown, [0x18, 0xd9, 0x03, 0x04, 0x15, 0x16, 0x17, 0x10]);
+    assert_eq!(shown, [0x18, 0xc1, 0x03, 0x04, 0x15, 0x16, 0x17, 0x10]);
     port.write(LCR, 0x80).unwrap();
     assert_eq!([port.read(0), port.read(1)], [0x11, 0x12]);
 }
 
 #[test]
-fn what_is_enabled_and_marked_is_raised_again() {
+fn what_is_enabled_and_pending_is_raised_again() {
     for ier in 0..=0x0f {
         for iir in 0..=0x0f {
-            let state = SerialState {
-                interrupt_enable: ier,
-                interrupt_identification: iir,
-                ..SerialState::default()
-            };
-            let transmitter = u32::from(ier & 0x02 != 0 && iir & 0x02 != 0);
-            let received = u32::from(ier & 0x01 != 0 && iir & 0x04 != 0);
-            let (port, raised) = restored(&state, 0);
-            assert_eq!(raised, transmitter + received, "{ier:#x} {iir:#x}");
-            assert_eq!(port.unwrap().state(), state);
+            for in_buffer in [vec![], vec![b'a']] {
+                let state = SerialState {
+                    interrupt_enable: ier,
+                    interrupt_identification: iir,
+                    in_buffer,
+                    ..SerialState::default()
+                };
+                let transmitter = u32::from(ier & 0x02 != 0 && iir & 0x02 != 0);
+                let received = u32::from(ier & 0x01 != 0 && !state.in_buffer.is_empty());
+                let (port, raised) = restored(&state, 0);
+                let port = port.unwrap();
+                assert_eq!(raised, transmitter + received, "{state:?}");
+                assert_eq!(port.interrupt_line(), raised > 0, "{state:?}");
+                assert_eq!(port.state(), state);
+            }
         }
+    }
+}
+
+/// vm-superio forgets a byte that waits once its guest has read IIR.
+#[test]
+fn a_byte_that_vm_superio_forgot_is_raised() {
+    let state = SerialState {
+        interrupt_enable: 0x01,
+        interrupt_identification: 0x01,
+        line_status: 0x61,
+        in_buffer: b"a".to_vec(),
+        ..SerialState::default()
+    };
+    assert!(!state.is_reachable());
+    let (port, raised) = restored(&state, 0);
+    let mut port = port.unwrap();
+    assert_eq!(raised, 1);
+    assert!(port.interrupt_line());
+    assert_eq!([port.read(IIR), port.read(DATA)], [0xc4, b'a']);
+    assert!(!port.interrupt_line());
+}
+
+/// vm-superio keeps what the guest has disabled since.
+#[test]
+fn what_vm_superio_kept_though_disabled_is_not_shown() {
+    let state = SerialState {
+        interrupt_enable: 0x00,
+        interrupt_identification: 0x06,
+        ..SerialState::default()
+    };
+    assert!(!state.is_reachable());
+    let (port, raised) = restored(&state, 0);
+    let mut port = port.unwrap();
+    assert_eq!((raised, port.read(IIR)), (0, 0xc1));
+    port.write(IER, 0x01).unwrap();
+    assert!(!port.interrupt_line());
+}
+
+/// A state shows a bit for each active kind: vm-superio, which goes by these alone, raises what is due.
+#[test]
+fn a_state_shows_what_is_active() {
+    for (ier, shown) in [(0x00, 0x01), (0x01, 0x04), (0x02, 0x02), (0x03, 0x06)] {
+        let mut port = Serial::new(Line::default(), sink());
+        port.enqueue_raw_bytes(b"a").unwrap();
+        port.write(IER, ier).unwrap();
+        assert_eq!(port.state().interrupt_identification, shown);
+        assert!(port.state().is_reachable());
     }
 }
 
@@ -168,15 +220,17 @@ fn a_65th_byte_is_refused() {
 
 #[test]
 fn a_state_can_be_asked_whether_a_run_comes_to_it() {
-    let changes: [fn(&mut SerialState); 7] = [
+    let changes: [fn(&mut SerialState); 9] = [
         |state| state.interrupt_enable = 0x10,
         |state| state.interrupt_identification = 0x00,
         |state| state.interrupt_identification = 0x07,
         |state| state.line_status = 0x60,
         |state| state.modem_status = 0x00,
         |state| state.in_buffer.clear(),
-        // The transmitter's mark went by a read of IIR, which would have taken the other along.
-        |state| (state.interrupt_enable, state.interrupt_identification) = (0x02, 0x04),
+        // IIR shows what is not enabled, or does not show a byte that waits.
+        |state| state.interrupt_enable = 0x02,
+        |state| state.interrupt_identification = 0x01,
+        |state| state.interrupt_identification = 0x02,
     ];
     assert!(two_kinds().is_reachable());
     for (number, change) in changes.iter().enumerate() {

@@ -13,7 +13,7 @@ fn sample(devices: &[Device], quiet_enable: bool, seed: u64) -> Vec<u8> {
     let options = Options {
         devices: devices.to_vec(),
         quiet_enable,
-        saves: true,
+        ..Options::default()
     };
     list(&options, 50_000, seed)
 }
@@ -23,7 +23,7 @@ struct Met(HashMap<String, usize>);
 
 impl Met {
     fn on(text: &[u8]) -> Self {
-        let mut driver = Driver::new(Account::default());
+        let mut driver = Driver::new(Account::Original);
         let mut met = Met(HashMap::new());
         let mut into = "";
         for line in asking_lines(text) {

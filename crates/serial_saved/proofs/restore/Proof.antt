@@ -3,6 +3,7 @@ use Prim.Native.Nat.{_≤_}
 use native.Mathlib.Omega.{arith}
 use Rattle.serial_saved.specs.Saved.{savedOf}
 use Rattle.serial_saved.proofs.Raising.{at-most-two}
+use Rattle.serial_saved.proofs.Testing.{some-is}
 use Rattle.serial_saved.proofs.Bringing.{refuses, as-number, restores}
 use borrow.Author.Needs.{needs}
 use Rattle.serial_saved.proofs.restore.Statement.{statement}
@@ -47,7 +48,7 @@ raises-requires c κs = search needs
 raised : (c : tie.After-raises) → c .raises .result ≤ 2
 raised c =
     let a = c .before .before .before .before .before .before .before .before .before .before .args in
-    omega (arith, c .raises .ensures (a .waiting .now), at-most-two (savedOf (a .saved .now) (a .waiting .now)))
+    omega (arith, c .raises .ensures (a .waiting .now) (some-is (a .waiting .now)), at-most-two (savedOf (a .saved .now) (a .waiting .now)))
 
 mul-result-2 : tie.Need-mul-result-2
 mul-result-2 c = omega (arith, raised c)
@@ -60,7 +61,7 @@ returns-2 c =
     let a = c .before .before .before .before .before .before .before .before .before .before .args in
     restores (a .saved .now) (a .waiting .now) (a .regs .now) (a .pos .now) (a .ring .now) _ _ _ _ (omega (arith, c .before .before .before .before .before .before .before .before .if1 .left))
     (c .before .before .before .before .before .before .pos-len .ensures) (c .before .before .before .before .copy .ensures) (c .before .before .fill .ensures)
-    (c .before .is-reachable .ensures) (c .raises .ensures (a .waiting .now))
+    (c .before .is-reachable .ensures) (c .raises .ensures (a .waiting .now) (some-is (a .waiting .now)))
 
 pub restore-spec : {M : Type 1} → statement M
 restore-spec =

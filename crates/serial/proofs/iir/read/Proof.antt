@@ -1,8 +1,5 @@
 -- The answer is a law of `Reading`.
 use mathlib.Core.Path.{_∙_}
-use mathlib.Core.Bool.{not}
-use lib.Dec.{eqb}
-use lib.ListN.{getD}
 use Rattle.serial.proofs.Reading.{identifies}
 use borrow.Author.Needs.{needs}
 use Rattle.serial.proofs.iir.read.Statement.{statement}
@@ -35,7 +32,7 @@ wide-requires c κs = search needs
 returns : tie.Need-returns
 returns c =
     let a = c .before .before .before .before .before .before .before .before .args in
-    λ ring. identifies (a .regs .now) (a .pos .now) ring (c .before .before .before .before .before .before .regs-len .ensures) (not (eqb (getD (a .pos .now) 1 0) 0)) (c .before .before .after-identification .ensures) (c .wide .ensures ∙ c .before .identification .ensures)
+    λ ring. identifies (a .regs .now) (a .pos .now) ring (c .before .before .before .before .before .before .regs-len .ensures) (c .before .before .after-identification .ensures) (c .wide .ensures ∙ c .before .identification .ensures)
 
 pub read-spec : {M : Type 1} → statement M
 read-spec =

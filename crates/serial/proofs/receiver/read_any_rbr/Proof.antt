@@ -1,5 +1,4 @@
 use mathlib.Core.Path.{_∙_}
-use lib.Dec.{ltb}
 use Rattle.serial.specs.Layout.{portOf}
 use Rattle.serial.proofs.Reading.{reads-none, reads-first}
 use borrow.Author.Needs.{needs}
@@ -31,7 +30,7 @@ returns : tie.Need-returns
 unfolding portOf
 returns c =
     let a = c .before .before .before .before .before .before .before .before .before .before .args in
-    reads-none (a .regs .now) (a .pos .now) (a .ring .now) (c .before .before .before .before .before .before .before .before .regs-len .ensures) _ (ltb 1 (c .before .before .before .before .before .before .count .result)) (c .before .before .before .after-data-read .ensures) _ (c .before .before .before .before .before .before .count .ensures) (c .before .before .if1 .taken) (c .lsr-after-read .ensures)
+    reads-none (a .regs .now) (a .pos .now) (a .ring .now) (c .before .before .before .before .before .before .before .before .regs-len .ensures) _ (c .before .before .before .before .before .before .count .ensures) _ (c .before .before .before .after-data-read .ensures) (c .before .before .if1 .taken) (c .lsr-after-read .ensures)
 
 sub-lsr-after-read : tie.Need-sub-lsr-after-read
 sub-lsr-after-read c = search needs
@@ -49,7 +48,7 @@ returns-2 : tie.Need-returns-2
 unfolding portOf
 returns-2 c =
     let a = c .before .before .before .before .before .before .before .before .before .before .before .before .before .args in
-    reads-first (a .regs .now) (a .pos .now) (a .ring .now) (c .before .before .before .before .before .before .before .before .before .before .before .regs-len .ensures) _ (ltb 1 (c .before .before .before .before .before .before .before .before .before .count .result)) (c .before .before .before .before .before .before .after-data-read .ensures) _ (c .before .before .before .before .before .before .before .before .before .count .ensures) _ (rw (c .wide .ensures) (c .before .take .ensures)) (c .before .before .before .before .before .if1 .left) (c .before .before .before .lsr-after-read2 .ensures)
+    reads-first (a .regs .now) (a .pos .now) (a .ring .now) (c .before .before .before .before .before .before .before .before .before .before .before .regs-len .ensures) _ (c .before .before .before .before .before .before .before .before .before .count .ensures) _ (c .before .before .before .before .before .before .after-data-read .ensures) _ (rw (c .wide .ensures) (c .before .take .ensures)) (c .before .before .before .before .before .if1 .left) (c .before .before .before .lsr-after-read2 .ensures)
 
 pub read-any-rbr-spec : {M : Type 1} → statement M
 read-any-rbr-spec =

@@ -40,7 +40,7 @@ element-write-regs c = search needs
 returns : tie.Need-returns
 returns c =
     let told = c .before .before .before .data-came .ensures in
-    record { marked = rw (c .before .store .ensures, told .stored, c .ready .ensures); counted = refl; raised = told .raised; once = told .few }
+    record { stored = rw (c .before .store .ensures, told .stored, c .ready .ensures); counted = refl; raised = told .raised; once = told .few }
 
 pub receive-spec : {M : Type 1} → statement M
 receive-spec =

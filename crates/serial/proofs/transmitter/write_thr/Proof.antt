@@ -1,5 +1,6 @@
 -- Each answer is a law of `Sending`.
 use mathlib.Core.Path.{sym, _∙_}
+use native.Mathlib.Omega.{arith}
 use Rattle.serial.specs.Layout.{portOf}
 use Rattle.serial.proofs.Sending.{loops, sends}
 use borrow.Author.Needs.{needs}
@@ -21,17 +22,33 @@ returns c =
     let a = c .before .before .before .before .before .before .before .args in
     loops (a .regs .now) (a .pos .now) (a .ring .now) (a .value) _ (sym (c .before .before .before .before .before .is-loop .ensures) ∙ c .before .before .before .before .if1 .taken) (c .write-loop .ensures)
 
-element-copy-out-write-line : tie.Need-element-copy-out-write-line
-element-copy-out-write-line c = search needs
+regs-len-requires : tie.Need-regs-len-requires
+regs-len-requires c κs = search needs
 
-write-line-requires : tie.Need-write-line-requires
-write-line-requires c κs = search needs
+element-copy-out-emptied : tie.Need-element-copy-out-emptied
+element-copy-out-emptied c = search needs
+
+emptied-requires : tie.Need-emptied-requires
+emptied-requires c κs = search needs
+
+wide-requires : tie.Need-wide-requires
+wide-requires c κs = search needs
+
+add-result : tie.Need-add-result
+add-result c = search needs
+
+mul-result : tie.Need-mul-result
+mul-result c = search needs
+
+add-result-2 : tie.Need-add-result-2
+add-result-2 c = search needs
 
 returns-2 : tie.Need-returns-2
 unfolding portOf
 returns-2 c =
-    let a = c .before .before .before .before .before .before .args in
-    sends (a .regs .now) (a .pos .now) (a .ring .now) (a .value) _ (sym (c .before .before .before .before .is-loop .ensures) ∙ c .before .before .before .if1 .left) (c .write-line .ensures _ _)
+    let a = c .before .before .before .before .before .before .before .before .before .args in
+    sends (a .regs .now) (a .pos .now) (a .ring .now) (c .before .before .before .before .regs-len .ensures) (a .value) (sym (c .before .before .before .before .before .before .before .is-loop .ensures) ∙ c .before .before .before .before .before .before .if1 .left) (c .before .emptied .ensures)
+    (omega (arith, c .wide .ensures))
 
 pub write-thr-spec : {M : Type 1} → statement M
 write-thr-spec =
@@ -41,6 +58,11 @@ write-thr-spec =
     is-loop-requires
     write-loop-requires
     returns
-    element-copy-out-write-line
-    write-line-requires
+    regs-len-requires
+    element-copy-out-emptied
+    emptied-requires
+    wide-requires
+    add-result
+    mul-result
+    add-result-2
     returns-2)

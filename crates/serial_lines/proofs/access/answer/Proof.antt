@@ -1,5 +1,5 @@
 -- By the access; each answer is a law of `Answering`.
-use Rattle.serial_lines.proofs.Answering.{by-access, written, read-from, entered, room-said, state-said, registers-brought, unknown}
+use Rattle.serial_lines.proofs.Answering.{by-access, written, read-from, entered, room-said, state-said, line-said, registers-brought, unknown}
 use borrow.Author.Needs.{needs}
 use Rattle.serial_lines.proofs.access.answer.Statement.{statement}
 use Rattle.serial_lines.proofs.access.answer.Tie as tie
@@ -46,6 +46,12 @@ state-requires c κs = search needs
 enum-told-5 : tie.Need-enum-told-5
 enum-told-5 c = search needs
 
+line-requires : tie.Need-line-requires
+line-requires c κs = search needs
+
+enum-told-6 : tie.Need-enum-told-6
+enum-told-6 c = search needs
+
 regs-in-requires : tie.Need-regs-in-requires
 regs-in-requires c κs = search needs
 
@@ -55,14 +61,14 @@ slice-aggregate-restore c = search needs
 restore-requires : tie.Need-restore-requires
 restore-requires c κs = search needs
 
-enum-told-6 : tie.Need-enum-told-6
-enum-told-6 c = search needs
+enum-told-7 : tie.Need-enum-told-7
+enum-told-7 c = search needs
 
 restore-given-requires : tie.Need-restore-given-requires
 restore-given-requires c κs = search needs
 
-enum-told-7 : tie.Need-enum-told-7
-enum-told-7 c = search needs
+enum-told-8 : tie.Need-enum-told-8
+enum-told-8 c = search needs
 
 unknown-requires : tie.Need-unknown-requires
 unknown-requires c κs = search needs
@@ -86,13 +92,16 @@ returns-6 : tie.Need-returns-6
 returns-6 c = λ saved waiting count. by-access _ (c .before .before .before .before .before .enum-told4 .given .1) (state-said _ (c .state .ensures .0) (search needs))
 
 returns-7 : tie.Need-returns-7
-returns-7 c = λ saved waiting count. by-access _ (c .before .before .before .before .before .before .before .before .enum-told5 .given .1) (registers-brought _ _ _ (c .before .before .before .before .before .before .before .regs-in .ensures .0) (c .before .before .before .before .before .before .before .regs-in .ensures .1) (c .restore .ensures .0) (search needs))
+returns-7 c = λ saved waiting count. by-access _ (c .before .before .before .before .enum-told5 .given .1) (line-said _ (c .line .ensures .0 _) (search needs))
 
 returns-8 : tie.Need-returns-8
-returns-8 c = λ saved waiting count. by-access _ (c .before .before .before .before .before .enum-told6 .given .1) (c .restore-given .ensures _ _ _)
+returns-8 c = λ saved waiting count. by-access _ (c .before .before .before .before .before .before .before .before .enum-told6 .given .1) (registers-brought _ _ _ (c .before .before .before .before .before .before .before .regs-in .ensures .0) (c .before .before .before .before .before .before .before .regs-in .ensures .1) (c .restore .ensures .0) (search needs))
 
 returns-9 : tie.Need-returns-9
-returns-9 c = λ saved waiting count. by-access _ (c .before .before .enum-told7 .given .1) (unknown _ (c .unknown .ensures) (search needs))
+returns-9 c = λ saved waiting count. by-access _ (c .before .before .before .before .before .enum-told7 .given .1) (c .restore-given .ensures _ _ _)
+
+returns-10 : tie.Need-returns-10
+returns-10 c = λ saved waiting count. by-access _ (c .before .before .enum-told8 .given .1) (unknown _ (c .unknown .ensures) (search needs))
 
 pub answer-spec : {M : Type 1} → statement M
 answer-spec =
@@ -112,12 +121,14 @@ answer-spec =
     enum-told-4
     state-requires
     enum-told-5
+    line-requires
+    enum-told-6
     regs-in-requires
     slice-aggregate-restore
     restore-requires
-    enum-told-6
-    restore-given-requires
     enum-told-7
+    restore-given-requires
+    enum-told-8
     unknown-requires
     returns
     returns-2
@@ -127,4 +138,5 @@ answer-spec =
     returns-6
     returns-7
     returns-8
-    returns-9)
+    returns-9
+    returns-10)

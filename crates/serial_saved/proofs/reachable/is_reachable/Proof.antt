@@ -1,7 +1,7 @@
 -- Each answer is a law of `Testing`.
 use mathlib.Core.Path.{refl}
 use native.Mathlib.Omega.{arith}
-use Rattle.serial_saved.proofs.Testing.{wide-ier, other-msr, other-lsr, other-marks, never-read, left-full, decided}
+use Rattle.serial_saved.proofs.Testing.{wide-ier, other-msr, other-lsr, other-iir, decided}
 use borrow.Author.Needs.{needs}
 use Rattle.serial_saved.proofs.reachable.is_reachable.Statement.{statement}
 use Rattle.serial_saved.proofs.reachable.is_reachable.Tie as tie
@@ -42,44 +42,23 @@ returns-3 c =
     let a = c .before .before .before .before .before .before .before .before .before .before .before .before .args in
     other-lsr (a .saved .now) (a .waiting .now) _ (c .before .status .ensures (a .waiting .now) refl) (c .if3 .taken)
 
-are-marks-requires : tie.Need-are-marks-requires
-are-marks-requires c κs = search needs
+settled-requires : tie.Need-settled-requires
+settled-requires c κs = search needs
 
 returns-4 : tie.Need-returns-4
 returns-4 c =
     let a = c .before .before .before .before .before .before .before .before .before .before .before .before .before .before .args in
-    other-marks (a .saved .now) (a .waiting .now) (c .before .are-marks .ensures (a .waiting .now) refl) (c .if4 .taken)
-
-is-transmitter-read-requires : tie.Need-is-transmitter-read-requires
-is-transmitter-read-requires c κs = search needs
-
-returns-5 : tie.Need-returns-5
-returns-5 c =
-    let a = c .before .before .before .before .before .before .before .before .before .before .before .before .before .before .before .before .args in
-    never-read (a .saved .now) (a .waiting .now) (c .before .is-transmitter-read .ensures) (c .if5 .taken)
-
-is-receiver-read-requires : tie.Need-is-receiver-read-requires
-is-receiver-read-requires c κs = search needs
-
-returns-6 : tie.Need-returns-6
-returns-6 c =
-    let a = c .before .before .before .before .before .before .before .before .before .before .before .before .before .before .before .before .before .before .args in
-    left-full (a .saved .now) (a .waiting .now) (c .before .is-receiver-read .ensures (a .waiting .now) refl) (c .if6 .taken)
+    other-iir (a .saved .now) (a .waiting .now) _ (c .before .settled .ensures) (c .if4 .taken)
 
 are-spares-zero-requires : tie.Need-are-spares-zero-requires
 are-spares-zero-requires c κs = search needs
 
-returns-7 : tie.Need-returns-7
-returns-7 c =
-    let a = c .before .before .before .before .before .before .before .before .before .before .before .before .before .before .before .before .before .before .before .args in
-    decided (a .saved .now) (a .waiting .now)
-    (c .before .before .before .before .before .before .before .before .before .before .before .before .before .before .before .before .all-bytes .ensures)
-    (c .before .before .before .before .before .before .before .before .before .before .before .before .before .before .before .all-bytes2 .ensures)
-    (c .before .before .before .before .before .before .before .before .before .before .before .before .before .before .before .before .before .before .before .pre)
-    (omega (arith, c .before .before .before .before .before .before .before .before .before .before .before .before .if1 .left)) (c .before .before .before .before .before .before .before .before .before .before .if2 .left)
-    (c .before .before .before .before .before .before .before .before .status .ensures (a .waiting .now) refl) (c .before .before .before .before .before .before .before .if3 .left)
-    (c .before .before .before .before .before .before .are-marks .ensures (a .waiting .now) refl) (c .before .before .before .before .before .if4 .left)
-    (c .before .before .before .before .is-transmitter-read .ensures) (c .before .before .before .if5 .left) (c .before .before .is-receiver-read .ensures (a .waiting .now) refl) (c .before .if6 .left) (c .are-spares-zero .ensures)
+returns-5 : tie.Need-returns-5
+returns-5 c =
+    let a = c .before .before .before .before .before .before .before .before .before .before .before .before .before .before .before .args in
+    decided (a .saved .now) (a .waiting .now) (c .before .before .before .before .before .before .before .before .before .before .before .before .all-bytes .ensures) (c .before .before .before .before .before .before .before .before .before .before .before .all-bytes2 .ensures) (c .before .before .before .before .before .before .before .before .before .before .before .before .before .before .before .pre)
+    (omega (arith, c .before .before .before .before .before .before .before .before .if1 .left)) (c .before .before .before .before .before .before .if2 .left) (c .before .before .before .before .status .ensures (a .waiting .now) refl) (c .before .before .before .if3 .left) (c .before .before .settled .ensures) (c .before .if4 .left)
+    (c .are-spares-zero .ensures)
 
 pub is-reachable-spec : {M : Type 1} → statement M
 is-reachable-spec =
@@ -95,11 +74,7 @@ is-reachable-spec =
     element-copy-out-if3
     status-requires
     returns-3
-    are-marks-requires
+    settled-requires
     returns-4
-    is-transmitter-read-requires
-    returns-5
-    is-receiver-read-requires
-    returns-6
     are-spares-zero-requires
-    returns-7)
+    returns-5)

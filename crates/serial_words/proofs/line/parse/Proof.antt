@@ -1,6 +1,6 @@
 -- Each answer is a law of `Lines`.
 use mathlib.Core.Path.{sym, _∙_}
-use Rattle.serial_words.proofs.Lines.{is-write, is-read, is-input, is-bytes, is-room, is-state, is-saved}
+use Rattle.serial_words.proofs.Lines.{is-write, is-read, is-input, is-bytes, is-room, is-state, is-line, is-saved}
 use borrow.Author.Needs.{needs}
 use Rattle.serial_words.proofs.line.parse.Statement.{statement}
 use Rattle.serial_words.proofs.line.parse.Tie as tie
@@ -68,11 +68,20 @@ fits-requires-5 c κs = search needs
 returns-6 : tie.Need-returns-6
 returns-6 c = is-state _ (sym (c .before .before .before .before .before .before .before .before .before .before .before .before .before .before .before .before .fits2 .ensures) ∙ c .before .before .before .before .before .before .before .before .before .before .before .before .before .before .before .if1 .left) (sym (c .before .before .before .before .before .before .before .before .before .before .before .before .before .fits3 .ensures) ∙ c .before .before .before .before .before .before .before .before .before .before .before .before .if2 .left) (sym (c .before .before .before .before .before .before .before .before .before .before .fits4 .ensures) ∙ c .before .before .before .before .before .before .before .before .before .if3 .left) (sym (c .before .before .before .before .before .before .before .begins .ensures) ∙ c .before .before .before .before .before .before .if4 .left) (sym (c .before .before .before .before .fits5 .ensures) ∙ c .before .before .before .if5 .left) (sym (c .before .fits6 .ensures) ∙ c .if6 .taken)
 
+slice-aggregate-fits-6 : tie.Need-slice-aggregate-fits-6
+slice-aggregate-fits-6 c = search needs
+
+fits-requires-6 : tie.Need-fits-requires-6
+fits-requires-6 c κs = search needs
+
+returns-7 : tie.Need-returns-7
+returns-7 c = is-line _ (sym (c .before .before .before .before .before .before .before .before .before .before .before .before .before .before .before .before .before .before .before .fits2 .ensures) ∙ c .before .before .before .before .before .before .before .before .before .before .before .before .before .before .before .before .before .before .if1 .left) (sym (c .before .before .before .before .before .before .before .before .before .before .before .before .before .before .before .before .fits3 .ensures) ∙ c .before .before .before .before .before .before .before .before .before .before .before .before .before .before .before .if2 .left) (sym (c .before .before .before .before .before .before .before .before .before .before .before .before .before .fits4 .ensures) ∙ c .before .before .before .before .before .before .before .before .before .before .before .before .if3 .left) (sym (c .before .before .before .before .before .before .before .before .before .before .begins .ensures) ∙ c .before .before .before .before .before .before .before .before .before .if4 .left) (sym (c .before .before .before .before .before .before .before .fits5 .ensures) ∙ c .before .before .before .before .before .before .if5 .left) (sym (c .before .before .before .before .fits6 .ensures) ∙ c .before .before .before .if6 .left) (sym (c .before .fits7 .ensures) ∙ c .if7 .taken)
+
 parse-saved-requires : tie.Need-parse-saved-requires
 parse-saved-requires c κs = search needs
 
-returns-7 : tie.Need-returns-7
-returns-7 c = is-saved _ (sym (c .before .before .before .before .before .before .before .before .before .before .before .before .before .before .before .before .before .fits2 .ensures) ∙ c .before .before .before .before .before .before .before .before .before .before .before .before .before .before .before .before .if1 .left) (sym (c .before .before .before .before .before .before .before .before .before .before .before .before .before .before .fits3 .ensures) ∙ c .before .before .before .before .before .before .before .before .before .before .before .before .before .if2 .left) (sym (c .before .before .before .before .before .before .before .before .before .before .before .fits4 .ensures) ∙ c .before .before .before .before .before .before .before .before .before .before .if3 .left) (sym (c .before .before .before .before .before .before .before .before .begins .ensures) ∙ c .before .before .before .before .before .before .before .if4 .left) (sym (c .before .before .before .before .before .fits5 .ensures) ∙ c .before .before .before .before .if5 .left) (sym (c .before .before .fits6 .ensures) ∙ c .before .if6 .left) (c .parse-saved .ensures)
+returns-8 : tie.Need-returns-8
+returns-8 c = is-saved _ (sym (c .before .before .before .before .before .before .before .before .before .before .before .before .before .before .before .before .before .before .before .before .fits2 .ensures) ∙ c .before .before .before .before .before .before .before .before .before .before .before .before .before .before .before .before .before .before .before .if1 .left) (sym (c .before .before .before .before .before .before .before .before .before .before .before .before .before .before .before .before .before .fits3 .ensures) ∙ c .before .before .before .before .before .before .before .before .before .before .before .before .before .before .before .before .if2 .left) (sym (c .before .before .before .before .before .before .before .before .before .before .before .before .before .before .fits4 .ensures) ∙ c .before .before .before .before .before .before .before .before .before .before .before .before .before .if3 .left) (sym (c .before .before .before .before .before .before .before .before .before .before .before .begins .ensures) ∙ c .before .before .before .before .before .before .before .before .before .before .if4 .left) (sym (c .before .before .before .before .before .before .before .before .fits5 .ensures) ∙ c .before .before .before .before .before .before .before .if5 .left) (sym (c .before .before .before .before .before .fits6 .ensures) ∙ c .before .before .before .before .if6 .left) (sym (c .before .before .fits7 .ensures) ∙ c .before .if7 .left) (c .parse-saved .ensures)
 
 pub parse-spec : {M : Type 1} → statement M
 parse-spec =
@@ -99,5 +108,8 @@ parse-spec =
     slice-aggregate-fits-5
     fits-requires-5
     returns-6
+    slice-aggregate-fits-6
+    fits-requires-6
+    returns-7
     parse-saved-requires
-    returns-7)
+    returns-8)

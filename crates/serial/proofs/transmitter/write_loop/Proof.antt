@@ -1,0 +1,88 @@
+-- Each answer is a law of `Looping`.
+use native.Mathlib.Omega.{arith}
+use Rattle.serial.proofs.Looping.{loop-drops, loop-receives}
+use borrow.Author.Needs.{needs}
+use Rattle.serial.proofs.transmitter.write_loop.Statement.{statement}
+use Rattle.serial.proofs.transmitter.write_loop.Tie as tie
+
+element-copy-out-is-quiet : tie.Need-element-copy-out-is-quiet
+element-copy-out-is-quiet c = search needs
+
+is-quiet-requires : tie.Need-is-quiet-requires
+is-quiet-requires c κs = search needs
+
+loop-quietly-requires : tie.Need-loop-quietly-requires
+loop-quietly-requires c κs = c .before .before .before .before .is-quiet .ensures (c .before .before .before .if1 .taken)
+
+returns : tie.Need-returns
+returns c = search needs
+
+regs-len-requires : tie.Need-regs-len-requires
+regs-len-requires c κs = search needs
+
+pos-len-requires : tie.Need-pos-len-requires
+pos-len-requires c κs = search needs
+
+count-requires : tie.Need-count-requires
+count-requires c κs = search needs
+
+element-copy-out-emptied : tie.Need-element-copy-out-emptied
+element-copy-out-emptied c = search needs
+
+emptied-requires : tie.Need-emptied-requires
+emptied-requires c κs = search needs
+
+mul-result : tie.Need-mul-result
+mul-result c = search needs
+
+returns-2 : tie.Need-returns-2
+returns-2 c =
+    let a = c .before .before .before .before .before .before .before .before .before .before .before .before .before .args in
+    loop-drops (a .regs .now) (a .pos .now) (a .ring .now) (c .before .before .before .before .before .before .before .before .regs-len .ensures) _ (c .before .before .before .before .count .ensures) (a .value) (c .before .emptied .ensures) (c .if2 .taken) (omega arith)
+
+element-copy-out-push : tie.Need-element-copy-out-push
+element-copy-out-push c = search needs
+
+push-requires : tie.Need-push-requires
+push-requires c κs = search needs
+
+add-receive : tie.Need-add-receive
+add-receive c = search needs
+
+receive-requires : tie.Need-receive-requires
+receive-requires c κs = search needs
+
+add-result : tie.Need-add-result
+add-result c = search needs
+
+mul-result-2 : tie.Need-mul-result-2
+mul-result-2 c = search needs
+
+returns-3 : tie.Need-returns-3
+returns-3 c =
+    let a = c .before .before .before .before .before .before .before .before .before .before .before .before .before .before .before .before .before .before .before .args in
+    loop-receives (a .regs .now) (a .pos .now) (a .ring .now) (c .before .before .before .before .before .before .before .before .before .before .before .before .before .before .regs-len .ensures) _ (c .before .before .before .before .before .before .before .before .before .before .count .ensures) (a .value) (c .before .before .before .before .before .before .before .before .before .before .before .before .pos-len .ensures) (c .before .before .before .before .before .before .before .emptied .ensures) (c .before .before .before .before .before .before .if2 .left)
+    (c .before .before .before .push .ensures) (c .receive .ensures) (omega arith)
+
+pub write-loop-spec : {M : Type 1} → statement M
+write-loop-spec =
+    tie.close
+    (tie.spec
+    element-copy-out-is-quiet
+    is-quiet-requires
+    loop-quietly-requires
+    returns
+    regs-len-requires
+    pos-len-requires
+    count-requires
+    element-copy-out-emptied
+    emptied-requires
+    mul-result
+    returns-2
+    element-copy-out-push
+    push-requires
+    add-receive
+    receive-requires
+    add-result
+    mul-result-2
+    returns-3)
