@@ -210,6 +210,47 @@ def is_a_kit_that_has_changed_told_in_one_line():
         return run.returncode == 1 and run.stdout == "" and run.stderr.count("\n") == 1 and "the kit has changed" in run.stderr
 
 
+def axioms_status(said, trusted="`libc::read`"):
+    """What tests/axioms thinks of one crate of which the prover said so; of none where that is empty."""
+    with tempfile.TemporaryDirectory() as folder:
+        for name in ["docs", "tests", "target/log"]:
+            os.makedirs(os.path.join(folder, name))
+        shutil.copy(os.path.join(ROOT, "tests/axioms"), os.path.join(folder, "tests"))
+        files = {"crates.txt": "one:\n", "docs/TRUSTED.md": trusted, "target/log/one.out": said}
+        for name, text in files.items():
+            if text:
+                with open(os.path.join(folder, name), "w", encoding="utf-8") as file:
+                    file.write(text)
+        return status(os.path.join(folder, "tests/axioms"))
+
+
+USES_READ = "axioms libc: libc::read (1 of the 50 declared)\nlogic=proved functions=2 axioms=1 sum=0\n"
+
+
+def is_a_trusted_axiom_taken():
+    return axioms_status(USES_READ) == 0
+
+
+def is_an_axiom_that_nobody_trusts_seen():
+    return axioms_status(USES_READ.replace("read", "write")) == 1
+
+
+def is_an_axiom_without_a_name_seen():
+    return axioms_status(USES_READ.replace("axioms=1", "axioms=2")) == 1
+
+
+def are_foreign_functions_seen():
+    return axioms_status(USES_READ.replace("axioms=1", "axioms=1 foreign=1")) == 1
+
+
+def is_a_crate_that_is_not_proved_seen():
+    return axioms_status(USES_READ.replace("logic=proved", "logic=not-proved")) == 1 and axioms_status("") == 1
+
+
+def is_an_axiom_trusted_in_vain_seen():
+    return axioms_status("logic=proved functions=2 sum=0\n") == 1
+
+
 def docs_status(break_it):
     with tempfile.TemporaryDirectory() as folder:
         for name in ["docs", "lists", "crates", "compare", "hosts", "bench", "include", "tests"]:
@@ -269,6 +310,12 @@ TESTS = [
     is_a_harmless_edit_seen,
     is_an_edit_of_nothing_seen,
     is_a_kit_that_has_changed_told_in_one_line,
+    is_a_trusted_axiom_taken,
+    is_an_axiom_that_nobody_trusts_seen,
+    is_an_axiom_without_a_name_seen,
+    are_foreign_functions_seen,
+    is_a_crate_that_is_not_proved_seen,
+    is_an_axiom_trusted_in_vain_seen,
     do_the_documents_hold_as_they_are,
     is_a_row_without_a_list_seen,
     is_a_constructor_without_a_row_seen,
