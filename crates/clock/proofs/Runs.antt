@@ -90,7 +90,8 @@ set-then-read c t u bytes lent between k =
     let c₁ = next c (write t 0x008 bytes) in
     let set : c₁ ≡ withLr c v (pos v -ℤ pos (t % 2 ^ 32)) = becomes-next c _ t 0x008 bytes (writes-lr c t 0x008 v refl) in
     let ahead : after c₁ between .ahead ≡ pos v -ℤ pos (t % 2 ^ 32) = ahead-stays c₁ between k ∙ ap (λ (x : Clock). x .ahead) set in
-    answered _ u 0x000 _ lent (reads-dr (after c₁ between) u 0x000 refl ∙ ap says (ap (shown (u % 2 ^ 32)) ahead ∙ shows-seen v (t % 2 ^ 32) (u % 2 ^ 32)))
+    answered _ u 0x000 _ lent
+    (reads-dr (after c₁ between) u 0x000 refl ∙ ap says (ap (shown (u % 2 ^ 32)) ahead ∙ shows-seen v (t % 2 ^ 32) (u % 2 ^ 32)))
 
 -- ---- A clock that follows the host
 
@@ -137,7 +138,8 @@ fresh-mask run = mask-stays fresh run (lit< tt)
 
 -- and from any state once it has been written.
 pub written-mask : (c : Clock) (t : ℕ) (bytes : List ℕ) (run : List Access) → after (next c (write t 0x010 bytes)) run .imsc < 2
-written-mask c t bytes run = mask-stays _ run (rw (becomes-next c _ t 0x010 bytes (writes-imsc c t 0x010 (valueOf bytes) refl)) (omega arith))
+written-mask c t bytes run =
+    mask-stays _ run (rw (becomes-next c _ t 0x010 bytes (writes-imsc c t 0x010 (valueOf bytes) refl)) (omega arith))
 
 -- The masked status is the raw status and the mask, as they read at whatever times.
 pub masked-status : (c : Clock) (t : ℕ) → readOf c t 0x018 ≡ says (bitAnd (c .ris) (c .imsc))
@@ -154,7 +156,8 @@ keeps-quiet : (c : Clock) (a : Access) → c .ris ≡ 0 → next c a .ris ≡ 0
 unfolding next
 keeps-quiet c (read time offset bytes) e = e
 keeps-quiet c (write time offset bytes) e =
-    write-cases c time offset (valueOf bytes) (λ c′. c′ .ris ≡ 0) (λ _. e) (λ _. e) (λ _ _. e) (λ _. e) (λ _. rw e (and-zero-l (2 ^ 32 - 1 - valueOf bytes))) e
+    write-cases c time offset (valueOf bytes) (λ c′. c′ .ris ≡ 0) (λ _. e) (λ _. e) (λ _ _. e) (λ _. e)
+    (λ _. rw e (and-zero-l (2 ^ 32 - 1 - valueOf bytes))) e
 
 -- The match register has no effect: no run of a fresh clock raises the status, whatever is written to it.
 pub fresh-quiet : (run : List Access) → after fresh run .ris ≡ 0

@@ -46,4 +46,5 @@ module _ (words : List ℕ) (time offset v : ℕ) where
     restarts e one w = changes (writes-cr (clockOf words) time offset v e ∙ rw (eq-eqb v 1 one)) w
 
   pub runs-on : offset ≡ 0x00c → (v ≡ 1 → ⊥) → Wrote words 0
-  runs-on e other = changes (writes-cr (clockOf words) time offset v e ∙ rw (ne-eqb v 1 other)) (record { clock = refl; spare = refl; answer = refl })
+  runs-on e other =
+      changes (writes-cr (clockOf words) time offset v e ∙ rw (ne-eqb v 1 other)) (record { clock = refl; spare = refl; answer = refl })

@@ -37,17 +37,20 @@ module _ (words : List ℕ) (n : length words ≡ 8) where
     pub stores-mr : Leaves (withMr (clockOf words) v) words (set words 1 v)
     unfolding clockOf spareOf
     stores-mr =
-        eight-are (λ l. Leaves (withMr (clockOf l) v) l (set l 1 v)) (λ _ _ _ _ _ _ _ _. record { clock = refl; spare = refl; answer = refl }) words n
+        eight-are (λ l. Leaves (withMr (clockOf l) v) l (set l 1 v))
+        (λ _ _ _ _ _ _ _ _. record { clock = refl; spare = refl; answer = refl }) words n
 
     pub stores-imsc : Leaves (withImsc (clockOf words) v) words (set words 2 v)
     unfolding clockOf spareOf
     stores-imsc =
-        eight-are (λ l. Leaves (withImsc (clockOf l) v) l (set l 2 v)) (λ _ _ _ _ _ _ _ _. record { clock = refl; spare = refl; answer = refl }) words n
+        eight-are (λ l. Leaves (withImsc (clockOf l) v) l (set l 2 v))
+        (λ _ _ _ _ _ _ _ _. record { clock = refl; spare = refl; answer = refl }) words n
 
     pub stores-ris : Leaves (withRis (clockOf words) v) words (set words 3 v)
     unfolding clockOf spareOf
     stores-ris =
-        eight-are (λ l. Leaves (withRis (clockOf l) v) l (set l 3 v)) (λ _ _ _ _ _ _ _ _. record { clock = refl; spare = refl; answer = refl }) words n
+        eight-are (λ l. Leaves (withRis (clockOf l) v) l (set l 3 v))
+        (λ _ _ _ _ _ _ _ _. record { clock = refl; spare = refl; answer = refl }) words n
 
     pub stores-lr : (bits : ℕ)
         → Leaves (withLr (clockOf words) v (signed bits)) words (set (set (set words 0 v) 4 (bits % 2 ^ 32)) 5 (bits / 2 ^ 32))

@@ -77,20 +77,27 @@ module _ (clocks : Clocks) {out out′ : List ℕ} {at r : ℕ} where
       record { reached = c .reachable; tells = c .told; said = rw (reached-told (c .reachable) (c .answer)) at p; clock = ap clockOf (c .words); spare = ap spareOf (c .words); time = refl; kept = refl; keeps = refl; short = h }
 
   pub saves : {kept′ : List ℕ} → kept′ ≡ clocks .clock → Puts out at (stateSays (text "save") kept′) out′ r → r ≤ at + 4096
-      → Answers save clocks out at (record { clocks = record { clock = clocks .clock; time = clocks .time; kept = kept′; keeps = true }; put = r }) out′
-  saves k p h = record { reached = false; tells = tt; said = rw (← k) p; clock = refl; spare = refl; time = refl; kept = k; keeps = refl; short = h }
+      → Answers save clocks out at
+      (record { clocks = record { clock = clocks .clock; time = clocks .time; kept = kept′; keeps = true }; put = r }) out′
+  saves k p h =
+      record { reached = false; tells = tt; said = rw (← k) p; clock = refl; spare = refl; time = refl; kept = k; keeps = refl; short = h }
 
   pub state-shown : Puts out at (stateSays (text "state") (clocks .clock)) out′ r → r ≤ at + 4096
       → Answers showState clocks out at (record { clocks = clocks; put = r }) out′
-  state-shown p h = record { reached = false; tells = tt; said = p; clock = refl; spare = refl; time = refl; kept = refl; keeps = refl; short = h }
+  state-shown p h =
+      record { reached = false; tells = tt; said = p; clock = refl; spare = refl; time = refl; kept = refl; keeps = refl; short = h }
 
   pub nothing-asked : Puts out at (text "?\n") out′ r → r ≤ at + 4096
       → Answers nothing clocks out at (record { clocks = clocks; put = r }) out′
-  nothing-asked p h = record { reached = false; tells = tt; said = p; clock = refl; spare = refl; time = refl; kept = refl; keeps = refl; short = h }
+  nothing-asked p h =
+      record { reached = false; tells = tt; said = p; clock = refl; spare = refl; time = refl; kept = refl; keeps = refl; short = h }
 
   pub time-set : {n : Number} {t : ℕ} → Is t ≡ n → Puts out at (text "now\n") out′ r → r ≤ at + 4096
-      → Answers (asksTime n) clocks out at (record { clocks = record { clock = clocks .clock; time = t; kept = clocks .kept; keeps = clocks .keeps }; put = r }) out′
-  time-set e p h = rw (← e) (record { reached = false; tells = tt; said = p; clock = refl; spare = refl; time = refl; kept = refl; keeps = refl; short = h })
+      → Answers (asksTime n) clocks out at
+      (record { clocks = record { clock = clocks .clock; time = t; kept = clocks .kept; keeps = clocks .keeps }; put = r }) out′
+  time-set e p h =
+      rw (← e)
+      (record { reached = false; tells = tt; said = p; clock = refl; spare = refl; time = refl; kept = refl; keeps = refl; short = h })
 
   pub no-time : {n : Number} → Bad ≡ n → Puts out at (text "?\n") out′ r → r ≤ at + 4096
       → Answers (asksTime n) clocks out at (record { clocks = clocks; put = r }) out′

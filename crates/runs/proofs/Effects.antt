@@ -51,7 +51,8 @@ read-cases P p a b c reserved = c _
 
 -- a byte written in the loop comes back, or is lost
 abbrev pub returned : Port → ℕ → Out
-returned p v = let o = receives (emptied p) (v ∷ []) in record { port = o .port; reply = 0; sent = []; raises = transmits p .raises + o .raises }
+returned p v =
+    let o = receives (emptied p) (v ∷ []) in record { port = o .port; reply = 0; sent = []; raises = transmits p .raises + o .raises }
 
 abbrev pub dropped : Port → Out
 dropped p = record { port = emptied p; reply = 0; sent = []; raises = transmits p .raises + 0 }
@@ -135,7 +136,8 @@ not-taken p bytes true = keeps (p .settings) (p .iir)
 not-taken p bytes false = keeps (p .settings) (p .iir)
 
 pub effect : (p : Port) (o : Op)
-    → Effect p (step p o .port) (accepted (bookOf p) o (step p o .answer)) (readsData (bookOf p) o) (delivered (bookOf p) o (step p o .answer))
+    → Effect p (step p o .port) (accepted (bookOf p) o (step p o .answer)) (readsData (bookOf p) o)
+    (delivered (bookOf p) o (step p o .answer))
 unfolding step accepted delivered bookOf
 effect p (read offset) =
     let P : Out → Bool → Type 0 = λ o t. Effect p (o .port) [] t (cond (t && ltb 0 (length (p .waiting))) (o .reply ∷ []) []) in

@@ -152,7 +152,8 @@ set s = write 7 (s .scr) ∷ write 3 0x80 ∷ write 0 (s .dll) ∷ write 1 (s .d
 
 set-bytes : (s : Settings) → Written s → AllOfBytes (set s)
 unfolding set
-set-bytes s w = ((lit< tt, w .scr), ((lit< tt, lit< tt), ((lit< tt, w .dll), ((lit< tt, w .dlm), ((lit< tt, w .lcr), ((lit< tt, w .mcr), tt))))))
+set-bytes s w =
+    ((lit< tt, w .scr), ((lit< tt, lit< tt), ((lit< tt, w .dll), ((lit< tt, w .dlm), ((lit< tt, w .lcr), ((lit< tt, w .mcr), tt))))))
 
 target : ℕ → Settings → ℕ → List ℕ → Port
 target size s iir q = record { settings = s; iir = iir; lsr = cond (some q) 0x61 0x60; msr = 0xb0; waiting = q; size = size }
@@ -172,7 +173,8 @@ is-target size p k = go (k .lsr) (k .msr) (k .sized)
 -- Every port that is reachable is reached ..
 pub reached : (size : ℕ) (p : Port) → Reachable size p → Reached size p
 reached size p k =
-    then size (arrives (way size p k)) (set (p .settings)) (set-bytes (p .settings) (k .settings)) (sets size (p .settings) (p .iir) (p .waiting) ∙ is-target size p k)
+    then size (arrives (way size p k)) (set (p .settings)) (set-bytes (p .settings) (k .settings))
+    (sets size (p .settings) (p .iir) (p .waiting) ∙ is-target size p k)
 
 -- .. so the two say the same.
 pub exact : (size : ℕ) (p : Port) → Reachable size p ↔ Reached size p

@@ -79,7 +79,8 @@ still-empty : (p : Port) → active (readRbr p .port) transmitterEmpty ≡ activ
 still-empty p = go (some (tail (p .waiting)))
   where
     go : (w : Bool)
-        → (on (p .settings .ier) 0x02 && on (cond w (p .iir) (settled (p .settings .ier) (p .iir) false)) 0x02) ≡ (on (p .settings .ier) 0x02 && on (p .iir) 0x02)
+        → (on (p .settings .ier) 0x02 && on (cond w (p .iir) (settled (p .settings .ier) (p .iir) false)) 0x02) ≡
+        (on (p .settings .ier) 0x02 && on (p .iir) 0x02)
     go true = refl
     go false = settled-keeps (p .settings .ier) (p .iir) false
 
@@ -99,7 +100,8 @@ one-round : (n : ℕ) (p : Port) → isOpen p ≡ false → (r t : Bool) → act
     → rounds p ≤ suc n
     → ((q : Port) → isOpen q ≡ false → rounds q ≤ n → Done q (serve n q)) → Done p (serve (suc n) p)
 one-round n p o true t r e h more =
-    let still : _≡_ {A = ℕ} (cond (active (readRbr p .port) transmitterEmpty) 1 0) (cond (active p transmitterEmpty) 1 0) = ap (λ (b : Bool). cond b 1 0) (still-empty p) in
+    let still : _≡_ {A = ℕ} (cond (active (readRbr p .port) transmitterEmpty) 1 0) (cond (active p transmitterEmpty) 1 0) = ap
+    (λ (b : Bool). cond b 1 0) (still-empty p) in
     let ih = more (readRbr p .port) o (omega (arith, h, fewer (enabled p receivedData) (p .waiting) r, still)) in
     let w = waits (enabled p receivedData) (some (p .waiting)) r in
     rw (served-data n p o r) (record { low = ih .low; all = λ k. first-then (p .waiting) _ (w .1) (ih .all k) })

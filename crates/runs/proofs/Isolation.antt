@@ -28,8 +28,10 @@ queue-alike : (places : ℕ) (ring ring′ : List ℕ) (n start start′ : ℕ)
 unfolding queue
 queue-alike places ring ring′ zero start start′ h = refl
 queue-alike places ring ring′ (suc n) start start′ h =
-    let first : getD ring (start % places) 0 ≡ getD ring′ (start′ % places) 0 = rw (add-zero start, add-zero start′) at (h 0 (omega arith)) in
-    let rest = queue-alike places ring ring′ n (start + 1) (start′ + 1) (λ k l. rw (next start k, next start′ k) at (h (suc k) (omega arith))) in
+    let first : getD ring (start % places) 0 ≡ getD ring′ (start′ % places) 0 = rw (add-zero start, add-zero start′) at
+    (h 0 (omega arith)) in
+    let rest = queue-alike places ring ring′ n (start + 1) (start′ + 1)
+    (λ k l. rw (next start k, next start′ k) at (h (suc k) (omega arith))) in
     rw (first, rest)
   where
     next : (start k : ℕ) → start + suc k ≡ start + 1 + k

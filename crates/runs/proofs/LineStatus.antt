@@ -16,4 +16,6 @@ ready-set = everywhere (λ x. on (lsrReady x) 0x01) (λ _. true)
 
 pub ready-cleared : (x : ℕ) → on (lsrAfterRead false x) 0x01 ≡ false
 unfolding lsrAfterRead
-ready-cleared = everywhere (λ x. on (lsrAfterRead false x) 0x01) (λ _. false) (λ x. ap (λ (a : ℕ). on a 0x01) (low-and 0xfe (omega arith) x)) (λ _. refl) tt
+ready-cleared =
+    everywhere (λ x. on (lsrAfterRead false x) 0x01) (λ _. false) (λ x. ap (λ (a : ℕ). on a 0x01) (low-and 0xfe (omega arith) x))
+    (λ _. refl) tt

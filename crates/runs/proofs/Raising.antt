@@ -240,7 +240,8 @@ module _ (p : Port) (k : Settled p) where
   unfolding step
   stays-settled (read offset) = read-cases Fine p (read-settled p k) (identified-settled p k) (λ v. k) (addressed (isOpen p) offset)
   stays-settled (write offset v) =
-      write-cases Fine p v (λ h. came-settled (emptied p) (v ∷ []) refl (emptied-settled p k)) (emptied-settled p k) (sent-settled v) (enabled-settled v) stored-settled
+      write-cases Fine p v (λ h. came-settled (emptied p) (v ∷ []) refl (emptied-settled p k)) (emptied-settled p k) (sent-settled v)
+      (enabled-settled v) stored-settled
       (addressed (isOpen p) offset)
   stays-settled (input bytes) = input-cases (λ (i : Input). Settled (i .port)) p bytes (λ f. k) (λ s h. came-settled p _ s k)
   stays-settled room = k

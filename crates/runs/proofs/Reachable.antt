@@ -47,7 +47,8 @@ accepted-bytes b room a h = tt
 put-written : (s : Settings) (r : Register) (v : ℕ) → Written s → v < 256 → Written (put s r v)
 unfolding put ierStored
 put-written s RBR-THR v w h = w
-put-written s IER v w h = record { ier = omega (arith, and-le-r v 0x0f); lcr = w .lcr; mcr = w .mcr; scr = w .scr; dll = w .dll; dlm = w .dlm }
+put-written s IER v w h =
+    record { ier = omega (arith, and-le-r v 0x0f); lcr = w .lcr; mcr = w .mcr; scr = w .scr; dll = w .dll; dlm = w .dlm }
 put-written s IIR-FCR v w h = w
 put-written s LCR v w h = record { ier = w .ier; lcr = h; mcr = w .mcr; scr = w .scr; dll = w .dll; dlm = w .dlm }
 put-written s MCR v w h = record { ier = w .ier; lcr = w .lcr; mcr = h; scr = w .scr; dll = w .dll; dlm = w .dlm }
@@ -61,7 +62,8 @@ put-written s reserved v w h = w
 written : (p : Port) (o : Op) → OfBytes o → Written (p .settings) → Written (step p o .port .settings)
 unfolding step
 written p (read offset) h w = rw (read-keeps-settings p (addressed (isOpen p) offset)) w
-written p (write offset v) h w = rw (write-puts p (addressed (isOpen p) offset) v) (put-written (p .settings) (addressed (isOpen p) offset) v w (h .1))
+written p (write offset v) h w =
+    rw (write-puts p (addressed (isOpen p) offset) v) (put-written (p .settings) (addressed (isOpen p) offset) v w (h .1))
 written p (input bytes) h w = rw (input-keeps-settings p bytes) w
 written p room h w = w
 
@@ -103,7 +105,8 @@ kept {p = p} reads b w u k = record {
 }
 
 pub step-reachable : (size : ℕ) (p : Port) (o : Op) → OfBytes o → Reachable size p → Reachable size (step p o .port)
-step-reachable size p o h k = kept (effect p o) (accepted-bytes (bookOf p) o (step p o .answer) h) (written p o h (k .settings)) (stays-settled p (k .iir) o) k
+step-reachable size p o h k =
+    kept (effect p o) (accepted-bytes (bookOf p) o (step p o .answer) h) (written p o h (k .settings)) (stays-settled p (k .iir) o) k
 
 pub fresh-reachable : (size : ℕ) → Reachable size (fresh size)
 unfolding settled

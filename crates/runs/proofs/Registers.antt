@@ -58,7 +58,8 @@ isRbr reserved = false
 pub rbr-is-data : (dlab : Bool) (n : ℕ) → isRbr (addressed dlab n) ≡ (eqb n 0 && not dlab)
 unfolding isRbr
 rbr-is-data dlab =
-    addressed-cases (λ n r. isRbr r ≡ (eqb n 0 && not dlab)) dlab (at0 dlab) (at1 dlab) refl refl refl refl refl refl (λ n h. rw (ne-eqb n 0 (λ e. omega arith)))
+    addressed-cases (λ n r. isRbr r ≡ (eqb n 0 && not dlab)) dlab (at0 dlab) (at1 dlab) refl refl refl refl refl refl
+    (λ n h. rw (ne-eqb n 0 (λ e. omega arith)))
   where
     at0 : (t : Bool) → isRbr (cond t DLL RBR-THR) ≡ not t
     at0 true = refl
@@ -104,12 +105,14 @@ pub put-lcr : (s : Settings) (dlab : Bool) (v n : ℕ) → put s (addressed dlab
 unfolding put
 put-lcr s dlab v =
     let P : Register → Type 0 = λ r. put s r v .lcr ≡ s .lcr in
-    addressed-cases (λ n r. put s r v .lcr ≡ cond (eqb n 3) v (s .lcr)) dlab (both P dlab refl refl) (both P dlab refl refl) refl refl refl refl refl refl
+    addressed-cases (λ n r. put s r v .lcr ≡ cond (eqb n 3) v (s .lcr)) dlab (both P dlab refl refl)
+    (both P dlab refl refl) refl refl refl refl refl refl
     (λ n h. rw (ne-eqb n 3 (λ e. omega arith)))
 
 pub put-mcr : (s : Settings) (dlab : Bool) (v n : ℕ) → put s (addressed dlab n) v .mcr ≡ cond (eqb n 4) v (s .mcr)
 unfolding put
 put-mcr s dlab v =
     let P : Register → Type 0 = λ r. put s r v .mcr ≡ s .mcr in
-    addressed-cases (λ n r. put s r v .mcr ≡ cond (eqb n 4) v (s .mcr)) dlab (both P dlab refl refl) (both P dlab refl refl) refl refl refl refl refl refl
+    addressed-cases (λ n r. put s r v .mcr ≡ cond (eqb n 4) v (s .mcr)) dlab (both P dlab refl refl)
+    (both P dlab refl refl) refl refl refl refl refl refl
     (λ n h. rw (ne-eqb n 4 (λ e. omega arith)))

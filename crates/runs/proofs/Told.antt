@@ -41,7 +41,8 @@ pub raise-high : (p : Port) (o : Op) → 1 ≤ raisesOf (step p o .answer) → l
 unfolding isHigh
 raise-high p o h =
     let q = step p o .port in
-    high (active p receivedData) (active p transmitterEmpty) (active q receivedData) (active q transmitterEmpty) (omega (arith, raises-exactly p o))
+    high (active p receivedData) (active p transmitterEmpty) (active q receivedData) (active q transmitterEmpty)
+    (omega (arith, raises-exactly p o))
 
 -- A kind that comes to be active is raised.
 comes : (a b c d : Bool) → a ≡ false → c ≡ true → (1 ≤ newly a c + newly b d) × (1 ≤ newly b d + newly a c)

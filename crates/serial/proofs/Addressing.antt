@@ -46,4 +46,5 @@ module _ (dlab : Bool) (offset : ℕ) where
       → writeRegister p (addressed dlab offset) v ≡ becomes p
   unfolding addressed
   unwritten p v h a b c =
-      rw (ne-eqb offset 0 (λ z. omega arith), ne-eqb offset 1 (λ z. omega arith), ne-eqb _ _ a, ne-eqb _ _ b, ne-eqb _ _ c) (nothing p v (eqb offset 2) (eqb offset 5) (eqb offset 6))
+      rw (ne-eqb offset 0 (λ z. omega arith), ne-eqb offset 1 (λ z. omega arith), ne-eqb _ _ a, ne-eqb _ _ b, ne-eqb _ _ c)
+      (nothing p v (eqb offset 2) (eqb offset 5) (eqb offset 6))

@@ -35,5 +35,7 @@ module _ {regs pos ring : List ℕ} {r : ℕ} {port : Port} {word : ℕ} where
     holds = e;
     unusedBytesKept = k;
     sparesKept = (s .spare, p);
-    unchangedIfSamePort = λ same. absurd (d (sym (waiting-length regs′ pos′ ring′) ∙ ap (λ (p : Port). length (p .waiting)) (e ∙ same) ∙ waiting-length regs pos ring));
+    unchangedIfSamePort =
+        λ same. absurd
+        (d (sym (waiting-length regs′ pos′ ring′) ∙ ap (λ (p : Port). length (p .waiting)) (e ∙ same) ∙ waiting-length regs pos ring));
   }

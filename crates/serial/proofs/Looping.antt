@@ -65,5 +65,6 @@ module _ (regs pos ring : List ℕ) (l : length regs ≡ 16) (n : ℕ) (c : n �
     loop-receives e =
         rw (not-full regs pos ring n c d)
         (other-count holds (unused-kept regs₁ pos ring n c long₁ m (n + 1) fits put got₁)
-        (both emptied-stored (stored regs₁ pos ring n c long₁ m (n + 1) fits put got₁)) (moved regs₁ pos ring n c long₁ m (n + 1) fits put got₁) longer
+        (both emptied-stored (stored regs₁ pos ring n c long₁ m (n + 1) fits put got₁))
+        (moved regs₁ pos ring n c long₁ m (n + 1) fits put got₁) longer
         (omega (arith, e, a .raised, raised₁, raised-emptied regs pos ring)))

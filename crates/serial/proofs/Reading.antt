@@ -79,7 +79,9 @@ module _ (regs pos ring : List ℕ) where
         → r ≡ identification (getD regs 1 0) (getD regs 2 0) waits
         → Reads readIir regs pos ring (set regs 2 iir) pos r
     unfolding portOf
-    identifies e b = rw (e, waits-is regs pos ring) (registers-alone n (one-stored regs 2 _ (omega arith)) (marks regs pos ring n _) (rw b (omega arith)))
+    identifies e b =
+        rw (e, waits-is regs pos ring)
+        (registers-alone n (one-stored regs 2 _ (omega arith)) (marks regs pos ring n _) (rw b (omega arith)))
 
     -- RBR: k bytes wait, u is IIR after the read
     module _ (k : ℕ) (c : k ≡ countOf pos) (u : ℕ) (w : u ≡ afterDataRead (p .settings .ier) (p .iir) (ltb 1 k)) {regs′ : List ℕ} where
@@ -102,8 +104,10 @@ module _ (regs pos ring : List ℕ) where
           let s : ℕ = (startOf pos + 1) % places in
           let left : List ℕ = queue places ring s (k - 1) in
           let there = placed pos (k - 1) (t .long) (omega arith) s in
-          let lies : queue places ring (startOf pos) (countOf pos) ≡ b ∷ left = rw (sym c, t .byte) (queue-first places ring (startOf pos) k z) in
-          let holds = receiver regs pos ring n u (lsrAfterRead (some left) (p .lsr)) (set (set pos 0 s) 1 (k - 1)) ring {waiting = left} (rw (there .0, there .1)) in
+          let lies : queue places ring (startOf pos) (countOf pos) ≡ b ∷ left = rw (sym c, t .byte)
+          (queue-first places ring (startOf pos) k z) in
+          let holds = receiver regs pos ring n u (lsrAfterRead (some left) (p .lsr)) (set (set pos 0 s) 1 (k - 1)) ring {waiting = left}
+          (rw (there .0, there .1)) in
           rw (t .moved, with-lsr (k - 1) e left (queue-length places ring s (k - 1))) (other-count (holds ∙ rw (lies, w, more-left k left z (queue-length places ring s (k - 1)))) refl (both-stored regs u _) (moved-spare pos s (k - 1)) (λ same. z (omega (arith, there .1))) (rw lies (omega arith)))
 
     -- RBR where several bytes wait: IIR and LSR stay
@@ -112,7 +116,8 @@ module _ (regs pos ring : List ℕ) where
     unfolding portOf
     reads-several k b c h t =
         let several : ltb 1 k ≡ true = lt-ltb 1 k h in
-        reads-first k c (p .iir) (rw several refl) b t (λ z. omega arith) (rw (set-getD regs 2 0) (some-left regs (k - 1) (λ z. omega arith)))
+        reads-first k c (p .iir) (rw several refl) b t (λ z. omega arith)
+        (rw (set-getD regs 2 0) (some-left regs (k - 1) (λ z. omega arith)))
 
     -- RBR where one byte waits
     pub reads-last : 1 ≡ countOf pos → {u : ℕ} → u ≡ afterDataRead (p .settings .ier) (p .iir) false → (b : ℕ) {regs′ pos′ : List ℕ}

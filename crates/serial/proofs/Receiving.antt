@@ -51,7 +51,9 @@ module _ (regs pos ring : List ℕ) (n : ℕ) (c : n ≡ countOf pos) where
 
     pub came : portOf regs′ pos′ ring′ ≡ receives p bytes .port
     unfolding portOf receives
-    came = rw (got .stored, got .counted, sym (waits-is regs pos ring)) (receiver regs pos ring l _ _ (set pos 1 k) ring′ {waiting = p .waiting ++ bytes} (rw (there .0, there .1, put .behind, c)))
+    came =
+        rw (got .stored, got .counted, sym (waits-is regs pos ring))
+        (receiver regs pos ring l _ _ (set pos 1 k) ring′ {waiting = p .waiting ++ bytes} (rw (there .0, there .1, put .behind, c)))
 
     pub unused-kept : unusedOf pos′ ring′ ≡ unusedOf pos′ ring
     unused-kept = rw (got .counted, there .0, there .1) (put .rest)
@@ -63,7 +65,8 @@ module _ (regs pos ring : List ℕ) (n : ℕ) (c : n ≡ countOf pos) where
     moved = rw (got .counted) (drop-set-lt 2 pos 1 k (omega arith))
 
     received : (r word : ℕ) → (k ≡ n → ⊥) → r ≡ word → Answers regs pos ring regs′ pos′ ring′ r (receives p bytes .port) word
-    received r word d a = other-count came unused-kept stored moved (λ same. d (sym (there .1) ∙ ap countOf (sym (got .counted)) ∙ same ∙ sym c)) a
+    received r word d a =
+        other-count came unused-kept stored moved (λ same. d (sym (there .1) ∙ ap countOf (sym (got .counted)) ∙ same ∙ sym c)) a
 
     pub raised : raises ≡ receives p bytes .raises
     unfolding portOf receives

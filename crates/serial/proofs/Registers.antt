@@ -77,11 +77,14 @@ module _ (regs pos ring : List ℕ) (n : length regs ≡ 16) where
   pub setting : (k : ℕ) (put : Settings → ℕ → Settings) (v : ℕ)
       → ((a b c d e f g h i : ℕ) (rest : List ℕ) → let l = a ∷ b ∷ c ∷ d ∷ e ∷ f ∷ g ∷ h ∷ i ∷ rest in portOf (set l k v) pos ring ≡ withSettings (portOf l pos ring) (put (portOf l pos ring .settings) v))
       → portOf (set regs k v) pos ring ≡ withSettings p (put (p .settings) v)
-  setting k put v t = nine (λ l. portOf (set l k v) pos ring ≡ withSettings (portOf l pos ring) (put (portOf l pos ring .settings) v)) t regs n
+  setting k put v t =
+      nine (λ l. portOf (set l k v) pos ring ≡ withSettings (portOf l pos ring) (put (portOf l pos ring .settings) v)) t regs n
 
   pub marks : (iir : ℕ) → portOf (set regs 2 iir) pos ring ≡ withReceiver p iir (p .lsr) (p .waiting)
   unfolding portOf
-  marks iir = nine (λ l. let q = portOf l pos ring in portOf (set l 2 iir) pos ring ≡ withReceiver q iir (q .lsr) (q .waiting)) (λ a b c d e f g h i l. refl) regs n
+  marks iir =
+      nine (λ l. let q = portOf l pos ring in portOf (set l 2 iir) pos ring ≡ withReceiver q iir (q .lsr) (q .waiting))
+      (λ a b c d e f g h i l. refl) regs n
 
   -- IER and the marks
   pub enabled : (ier iir : ℕ)
@@ -95,7 +98,8 @@ module _ (regs pos ring : List ℕ) (n : length regs ≡ 16) where
       → portOf (set (set regs 2 iir) 5 lsr) pos′ ring′ ≡ withReceiver p iir lsr waiting
   unfolding portOf
   receiver iir lsr pos′ ring′ {waiting} e =
-      nine (λ l. portOf (set (set l 2 iir) 5 lsr) pos′ ring′ ≡ withReceiver (portOf l pos ring) iir lsr waiting) (λ a b c d e′ f g h i l. rw e refl) regs n
+      nine (λ l. portOf (set (set l 2 iir) 5 lsr) pos′ ring′ ≡ withReceiver (portOf l pos ring) iir lsr waiting)
+      (λ a b c d e′ f g h i l. rw e refl) regs n
 
 -- ---- The positions
 

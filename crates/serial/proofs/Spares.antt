@@ -39,7 +39,8 @@ module _ (regs : List ℕ) where
 
   pub all-zero : (i : ℕ) → length regs ≡ 16 → 16 ≤ i → ZeroUpTo regs i → (true ≡ true) ↔ (spareRegisters regs ≡ freshSpareRegisters)
   all-zero i n h z = (
-    λ _. ext-getD 0 (drop 9 regs) freshSpareRegisters (length-drop 9 regs ∙ omega arith) (λ k l. getD-drop 9 regs k 0 ∙ z .zero (9 + k) (omega arith) (omega (arith, length-drop 9 regs)) ∙ sym (fresh-at k)),
+    λ _. ext-getD 0 (drop 9 regs) freshSpareRegisters (length-drop 9 regs ∙ omega arith)
+        (λ k l. getD-drop 9 regs k 0 ∙ z .zero (9 + k) (omega arith) (omega (arith, length-drop 9 regs)) ∙ sym (fresh-at k)),
     λ _. refl,
   )
 

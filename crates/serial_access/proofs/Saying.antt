@@ -56,7 +56,8 @@ unfolding inputOf
 few-taken p bytes e = go (inLoop p) (eqb (length bytes) 0) (hasRoom p)
   where
     go : (loops none room : Bool)
-        → cond loops (takesNone p false) (cond none (takesNone p false) (cond room (takesSome p bytes) (takesNone p true))) .taken < 0x1_0000
+        → cond loops (takesNone p false)
+        (cond none (takesNone p false) (cond room (takesSome p bytes) (takesNone p true))) .taken < 0x1_0000
     go true none room = omega arith
     go false true room = omega arith
     go false false true = omega (arith, e)
@@ -94,7 +95,9 @@ module _ {out o₁ o₂ out′ : List ℕ} {at a b r : ℕ} {regs pos ring regs�
       let o = writeOf (portOf regs pos ring) offset value in
       let parts = write-parts o value h (value-or-none (portOf regs pos ring) (addressed (isOpen (portOf regs pos ring)) offset) value) in
       record {
-        says = both (both p (instead (ap (λ (w : ℕ). sentPart (w % 0x100_0000)) (c .answer) ∙ parts .0) q)) (instead (ap (λ (w : ℕ). raisesSay (w / 0x100_0000)) (c .answer) ∙ ap raisesSay (parts .1)) s);
+        says =
+            both (both p (instead (ap (λ (w : ℕ). sentPart (w % 0x100_0000)) (c .answer) ∙ parts .0) q))
+            (instead (ap (λ (w : ℕ). raisesSay (w / 0x100_0000)) (c .answer) ∙ ap raisesSay (parts .1)) s);
         holds = c .holds;
       }
 
@@ -105,7 +108,9 @@ module _ {out o₁ o₂ out′ : List ℕ} {at a b r : ℕ} {regs pos ring regs�
   takes bytes c p q s =
       let parts = input-parts (inputOf (portOf regs pos ring) bytes) (few-taken (portOf regs pos ring) bytes (size-of regs pos ring)) in
       record {
-        says = both (both p (instead (ap (λ (w : ℕ). takenPart (w % 0x100_0000)) (c .answer) ∙ parts .0) q)) (instead (ap (λ (w : ℕ). raisesSay (w / 0x100_0000)) (c .answer) ∙ ap raisesSay (parts .1)) s);
+        says =
+            both (both p (instead (ap (λ (w : ℕ). takenPart (w % 0x100_0000)) (c .answer) ∙ parts .0) q))
+            (instead (ap (λ (w : ℕ). raisesSay (w / 0x100_0000)) (c .answer) ∙ ap raisesSay (parts .1)) s);
         holds = c .holds;
       }
 

@@ -112,7 +112,8 @@ module _ (n : ℕ) (form saved waiting : List ℕ) {saved₁ saved′ waiting′
       let behind : length (drop 13 form) ≡ n = length-drop 13 form ∙ omega arith in
       let nine : length (registersIn form) ≡ 9 = simp (length-take, length-drop) (omega arith) in
       let all-of : length (savedIn form) ≡ length saved = simp (length-append, nine) (omega arith) in
-      let both : saved′ ≡ sets saved 0 (savedIn form) = rw (o, p) (rw nine at (sets-behind saved 0 (registersIn form) freshSpareRegisters)) in
+      let both : saved′ ≡ sets saved 0 (savedIn form) = rw (o, p)
+      (rw nine at (sets-behind saved 0 (registersIn form) freshSpareRegisters)) in
       let room : length (drop 13 form) ≤ length waiting = omega arith in
       let all : length (drop 13 form) ≤ length form - 13 = omega arith in
       rw (none-left n form h e)

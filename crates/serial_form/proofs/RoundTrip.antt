@@ -52,7 +52,8 @@ module _ (form : List ℕ) where
       fixed : 2 ≤ length form → versionIn form ≡ current → Dec (length form < 13) → Comes form (readForm form)
       fixed h v (yes l) = by (cutOff h v l)
       fixed h v (no l) =
-          behind (omega arith) v (decLt size (countIn form)) (decLt (length form) (13 + countIn form)) (decLt (13 + countIn form) (length form))
+          behind (omega arith) v (decLt size (countIn form)) (decLt (length form) (13 + countIn form))
+          (decLt (13 + countIn form) (length form))
 
       version : Dec (length form < 2) → Dec (versionIn form ≡ current) → Comes form (readForm form)
       version (yes h) v = by (noVersion h)

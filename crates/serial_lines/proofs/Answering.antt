@@ -52,7 +52,8 @@ use Rattle.serial_lines.specs.Answers.{
 
 -- What is ports, with the port in other memory.
 abbrev pub holding : Ports → List ℕ → List ℕ → List ℕ → Ports
-holding ports regs pos ring = record { regs = regs; pos = pos; ring = ring; saved = ports .saved; waiting = ports .waiting; count = ports .count }
+holding ports regs pos ring =
+    record { regs = regs; pos = pos; ring = ring; saved = ports .saved; waiting = ports .waiting; count = ports .count }
 
 -- ---- A line that asks for nothing, and one that restores a port
 
@@ -104,7 +105,8 @@ module _ {digits bytes : List ℕ} {b : Bytes} (g : Gives digits bytes b) where
 
   pub given-bytes : (ports : Ports) (line saved : List ℕ) {n : ℕ} {regs′ pos′ ring′ out out′ : List ℕ} {at r : ℕ} → b ≡ Are n
       → ((w : List ℕ) → savedOf saved w ≡ givenIn line w) → spareRegisters saved ≡ freshSpareRegisters
-      → Brought (savedOf saved (take n bytes)) (spareRegisters saved) (ports .regs) (ports .pos) (ports .ring) regs′ pos′ ring′ out at out′ r → r ≤ at + 4096
+      → Brought (savedOf saved (take n bytes)) (spareRegisters saved) (ports .regs) (ports .pos)
+      (ports .ring) regs′ pos′ ring′ out at out′ r → r ≤ at + 4096
       → Answers (asksWith digits (λ w. restore (givenIn line w) freshSpareRegisters)) ports out at (holding ports regs′ pos′ ring′) out′ r
   given-bytes ports line saved {n} e s z d h = rw (good n e, ← first n e, ← s (take n bytes), ← z) (brought ports d h)
 
@@ -116,7 +118,8 @@ module _ (ports : Ports) {n : ℕ} {out out′ : List ℕ} {at r : ℕ} (e : n �
   none-kept l p h = rw (lt-leb (ports .count) size (rw (← e) l)) (unknown ports p h)
 
   pub some-kept : {regs′ pos′ ring′ : List ℕ} → n ≤ size
-      → Brought (savedOf (ports .saved) (take (n - 0) (drop 0 (ports .waiting)))) (spareRegisters (ports .saved)) (ports .regs) (ports .pos) (ports .ring) regs′ pos′ ring′ out at out′ r → r ≤ at + 4096
+      → Brought (savedOf (ports .saved) (take (n - 0) (drop 0 (ports .waiting)))) (spareRegisters (ports .saved)) (ports .regs) (ports .pos)
+      (ports .ring) regs′ pos′ ring′ out at out′ r → r ≤ at + 4096
       → Answers (asksKept ports) ports out at (holding ports regs′ pos′ ring′) out′ r
   some-kept l b h =
       let z : n - 0 ≡ ports .count = omega arith in
@@ -146,13 +149,16 @@ module _ (ports : Ports) {out out′ : List ℕ} {at r : ℕ} where
       → Saves (ports .regs) (ports .pos) (ports .ring) (ports .waiting) saved′ waiting′ count′
       → length waiting′ ≡ places → Puts out at (text "save") o₁ a → Puts o₁ a (portSays (portOf saved′ (0 ∷ count′ ∷ []) waiting′)) out′ r
       → r ≤ at + 4096
-      → Answers save ports out at (record { regs = ports .regs; pos = ports .pos; ring = ports .ring; saved = saved′; waiting = waiting′; count = count′ }) out′ r
+      → Answers save ports out at
+      (record { regs = ports .regs; pos = ports .pos; ring = ports .ring; saved = saved′; waiting = waiting′; count = count′ }) out′ r
   unfolding savedOf
   saves {saved′} {waiting′} {count′ = count′} s l p q h =
       let few : count′ ≤ size = rw (s .number) (memory-fits (ports .regs) (ports .pos) (ports .ring)) in
       let same : min count′ size ≡ count′ = omega arith in
-      let bytes : queue places waiting′ 0 (min count′ size) ≡ take count′ waiting′ = rw same (from-first waiting′ count′ (omega arith) (omega (arith, l))) in
-      let port : portOf saved′ (0 ∷ count′ ∷ []) waiting′ ≡ portIn ports = same-port saved′ (0 ∷ count′ ∷ []) waiting′ (take count′ waiting′) bytes ∙ s .holds in
+      let bytes : queue places waiting′ 0 (min count′ size) ≡ take count′ waiting′ = rw same
+      (from-first waiting′ count′ (omega arith) (omega (arith, l))) in
+      let port : portOf saved′ (0 ∷ count′ ∷ []) waiting′ ≡ portIn ports = same-port saved′ (0 ∷ count′ ∷ []) waiting′
+      (take count′ waiting′) bytes ∙ s .holds in
       record { reached = false; tells = tt; said = rw (← port) (both p q); port = refl; kept = (few, s .holds); short = h }
 
 -- ---- One line

@@ -38,7 +38,8 @@ pub nine : (line : List ℕ) {a b c d e f g h i : ℕ} → a ≡ byteAt line 8 �
 unfolding savedOf portOf
 nine line p q r s t u v w x waiting = rw (p, q, r, s, t, u, v, w, x) refl
 
-module _ {regs pos ring saved waiting regs′ pos′ ring′ : List ℕ} {word : ℕ} (b : Restores regs pos ring saved waiting regs′ pos′ ring′ word) where
+module _ {regs pos ring saved waiting regs′ pos′ ring′ : List ℕ} {word : ℕ}
+    (b : Restores regs pos ring saved waiting regs′ pos′ ring′ word) where
   abbrev o : Restore
   o = restoreOf (portOf regs pos ring) (savedOf saved waiting)
 

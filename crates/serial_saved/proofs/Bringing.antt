@@ -83,7 +83,8 @@ module _ (saved waiting : List ℕ) where
       → regs′ ≡ saved
       → Put places ring 0 0 (take (length waiting) waiting) ring′ (0 + length waiting) → (reachable ≡ true) ↔ ReachableSaved saved waiting
       → raises ≡ length (raisedAgain (savedOf saved waiting))
-      → Restores regs pos ring saved waiting regs′ (set (set pos 0 0) 1 (length waiting)) ring′ (0x4_0000 * boolByte reachable + 0x100_0000 * raises)
+      → Restores regs pos ring saved waiting regs′ (set (set pos 0 0) 1 (length waiting)) ring′
+      (0x4_0000 * boolByte reachable + 0x100_0000 * raises)
   unfolding queue
   restores regs pos ring regs′ ring′ raises reachable h l c put k e =
       let z : 0 + length waiting ≡ length waiting = zero-add (length waiting) in
@@ -93,7 +94,8 @@ module _ (saved waiting : List ℕ) where
         reachable = reachable;
         exact = k;
         answer = rw (as-number reachable .0, e) (omega arith);
-        holds = same-port saved (0 ∷ length waiting ∷ sparePositions pos) ring′ waiting (rw n (rw z at (put .behind) ∙ take-length waiting));
+        holds =
+            same-port saved (0 ∷ length waiting ∷ sparePositions pos) ring′ waiting (rw n (rw z at (put .behind) ∙ take-length waiting));
         unusedBytesKept = rw n (rw z at (put .rest));
         sparePositionsKept = refl;
         restored = λ f. (refl, refl);

@@ -93,7 +93,8 @@ module _ {regs pos ring w saved w′ : List ℕ} {n : ℕ} (s : Saves regs pos r
     -- A port that runs reach is one still, and the word says so.
     pub saved-reachable : Reachable size (portOf regs pos ring) → spareRegisters regs ≡ freshSpareRegisters
         → (r / 0x4_0000 % 2 ≡ 1) × Reachable size (portOf regs′ pos′ ring′)
-    saved-reachable k z = (reachable-exactly b .1 (record { port = rw (s .holds) k; sparesZero = ap spareRegisters (s .registers) ∙ z }), rw same-port k)
+    saved-reachable k z =
+        (reachable-exactly b .1 (record { port = rw (s .holds) k; sparesZero = ap spareRegisters (s .registers) ∙ z }), rw same-port k)
 
 -- ---- What is raised again
 
@@ -123,15 +124,18 @@ module _ (p : Port) where
 
   active-raised : (s : Kind) → active p s ≡ true → List·Memᴰ s (raisedAgain p)
   unfolding raisedAgain
-  active-raised transmitterEmpty e = Memᴰ·append-left (ifActive (active p receivedData) receivedData) (active-in (active p transmitterEmpty) transmitterEmpty e)
-  active-raised receivedData e = Memᴰ·append-right (ifActive (active p transmitterEmpty) transmitterEmpty) (active-in (active p receivedData) receivedData e)
+  active-raised transmitterEmpty e =
+      Memᴰ·append-left (ifActive (active p receivedData) receivedData) (active-in (active p transmitterEmpty) transmitterEmpty e)
+  active-raised receivedData e =
+      Memᴰ·append-right (ifActive (active p transmitterEmpty) transmitterEmpty) (active-in (active p receivedData) receivedData e)
 
   none-twice : List·Nodup (raisedAgain p)
   unfolding raisedAgain
   none-twice = go (active p transmitterEmpty) (active p receivedData)
     where
       go : (a b : Bool) → List·Nodup (ifActive a transmitterEmpty ++ ifActive b receivedData)
-      go true true = nodup-cons .1 (λ m. ∥∥₁-elim m ⊥-prop (λ d. apart (List·Memᴰ·eq-of-singleton d)), nodup-cons .1 (not-mem-nil, nodup-nil))
+      go true true =
+          nodup-cons .1 (λ m. ∥∥₁-elim m ⊥-prop (λ d. apart (List·Memᴰ·eq-of-singleton d)), nodup-cons .1 (not-mem-nil, nodup-nil))
       go true false = nodup-cons .1 (not-mem-nil, nodup-nil)
       go false true = nodup-cons .1 (not-mem-nil, nodup-nil)
       go false false = nodup-nil

@@ -34,7 +34,8 @@ module _ {out out′ : List ℕ} {at r : ℕ} (n : ℕ) where
   pub full : 0x1_0000 ≤ n → Puts out at (text "full") out′ r → Puts out at (takenPart n) out′ r
   full h p = rw (le-ltb n 0x1_0000 h) p
 
-  module _ {o₁ o₂ : List ℕ} {a b : ℕ} (p : Puts out at (text "restore ") o₁ a) (q : Puts o₁ a (decimalOf (n / 0x100_0000)) o₂ b) (h : n ≡ 0x1_0000 → ⊥) where
+  module _ {o₁ o₂ : List ℕ} {a b : ℕ} (p : Puts out at (text "restore ") o₁ a) (q : Puts o₁ a (decimalOf (n / 0x100_0000)) o₂ b)
+      (h : n ≡ 0x1_0000 → ⊥) where
     pub reached : n / 0x4_0000 % 2 ≡ 1 → Puts o₂ b (text " reached\n") out′ r → Puts out at (broughtPart n) out′ r
     reached e s = rw (ne-eqb n 0x1_0000 h, eq-eqb (n / 0x4_0000 % 2) 1 e) (both (both p q) s)
 
@@ -78,7 +79,8 @@ unfolding queue
 some-in ring start zero h = absurd (h refl)
 some-in ring start (suc n) h = refl
 
-module _ (ring : List ℕ) (start : ℕ) {n : ℕ} {out o₁ o₂ out′ : List ℕ} {at a b r : ℕ} (p : Puts out at (text " ") o₁ a) (q : Puts o₁ a (decimalOf n) o₂ b) where
+module _ (ring : List ℕ) (start : ℕ) {n : ℕ} {out o₁ o₂ out′ : List ℕ} {at a b r : ℕ} (p : Puts out at (text " ") o₁ a)
+    (q : Puts o₁ a (decimalOf n) o₂ b) where
   pub none-wait : n ≡ 0 → Puts o₂ b (text " -\n") out′ r → Puts out at (waitingSay (queue places ring start n)) out′ r
   none-wait e s = rw (queue-length places ring start n, none-in ring start n e) (both (both p q) s)
 

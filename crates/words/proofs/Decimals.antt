@@ -97,7 +97,8 @@ fewest-digits (suc most) (suc (suc k)) n h f =
     let low : 10 ^ suc k ≤ n = rw less at (f .2 (omega arith)) in
     let high : n < 10 ^ suc k * 10 = rw (pow-suc 10 (suc k)) at (f .1) in
     let one-less : suc k - 1 ≡ k = omega arith in
-    let tenth : Fewest 10 1 (n / 10) (suc k) = (omega arith, omega (arith, high), λ g. rw one-less (omega (arith, rw (pow-suc 10 k) at low))) in
+    let tenth : Fewest 10 1 (n / 10) (suc k) =
+    (omega arith, omega (arith, high), λ g. rw one-less (omega (arith, rw (pow-suc 10 k) at low))) in
     rw (le-ltb n 10 (omega (arith, one-le-pow k 10 (omega arith), rw (pow-suc 10 k) at low)), ← fewest-digits most (suc k) (n / 10) (omega arith) tenth, last-digit n) refl
 
 pub put-fewest : {n k : ℕ} {word out out′ : List ℕ} {at r : ℕ} → k ≤ 20 → Fewest 10 1 n k → word ≡ digits 10 k n → Puts out at word out′ r

@@ -83,7 +83,8 @@ module _ (line : List ℕ) (from : ℕ) (bytes : List ℕ) (i : ℕ) (s : SoFar 
   high-fails e g = not-pairs line from (pairs-on ∙ rw (le-ltb (valueOf high) 16 (rw (← e) (omega arith))) refl)
 
   pub low-fails : {v : ℕ} {bytes′ : List ℕ} → v ≡ valueOf low → 15 < v → Gives (drop from line) bytes′ Bad
-  low-fails e g = not-pairs line from (pairs-on ∙ rw (le-ltb (valueOf low) 16 (rw (← e) (omega arith)), and-false (ltb (valueOf high) 16)) refl)
+  low-fails e g =
+      not-pairs line from (pairs-on ∙ rw (le-ltb (valueOf low) 16 (rw (← e) (omega arith)), and-false (ltb (valueOf high) 16)) refl)
 
   pub one-more : {v w b : ℕ} → v ≡ valueOf high → (15 < v → ⊥) → w ≡ valueOf low → (15 < w → ⊥) → b ≡ byteOf high low → i < 4096
       → SoFar line from (set bytes i b) (i + 1)

@@ -24,7 +24,8 @@ other-length (p ∷ pattern) (c ∷ line) h = after (standsFor p c) (other-lengt
 module _ (pattern line : List ℕ) (i : ℕ) where
   -- from a place on: the characters there, and the rest
   along : i < length pattern → i < length line
-      → fitsOf (drop i pattern) (drop i line) ≡ standsFor (getD pattern i 0) (getD line i 0) && fitsOf (drop (i + 1) pattern) (drop (i + 1) line)
+      → fitsOf (drop i pattern) (drop i line) ≡ standsFor (getD pattern i 0) (getD line i 0) && fitsOf (drop (i + 1) pattern)
+      (drop (i + 1) line)
   unfolding fitsOf
   along p l = rw (add-one, drop-cons pattern i 0 p, drop-cons line i 0 l)
 
