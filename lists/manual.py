@@ -115,12 +115,13 @@ def line_of(accesses, access, answer):
     raise Trouble(f"`{access}` is not answered `{answer}` by a chip")
 
 
-def lines_of(name):
-    """The device of a list and its lines in the crate, or None where the list says why they are not proved."""
-    path = os.path.join(ROOT, name)
-    rows = parsed(path, "manual")
-    if any(text.startswith(UNPROVED) for text, _, _ in rows):
-        return None
+def unproved(rows):
+    """Why a list is not proved, or None."""
+    return next((text[len(UNPROVED) :] for text, _, _ in rows if text.startswith(UNPROVED)), None)
+
+
+def lines_of(name, rows):
+    """The device of a list, and its lines in the crate."""
     device = next((access for _, access, _ in rows if access is not None), None)
     if device not in DEVICES:
         raise Trouble(f"{name}: begins with no device")
@@ -141,15 +142,21 @@ def lines_of(name):
     return device, [line for line in lines if line]
 
 
+def told_lists():
+    """The lists that tell of the manual: name and rows."""
+    for path in sorted(glob.glob(os.path.join(ROOT, "lists/**/*.list"), recursive=True)):
+        name = os.path.relpath(path, ROOT)
+        if name.startswith("lists/differences/") or has_column(path):
+            yield name, parsed(path, "manual")
+
+
 def files():
     """The crate's generated files: name and text."""
-    names = sorted(os.path.relpath(path, ROOT) for path in glob.glob(os.path.join(ROOT, "lists/**/*.list"), recursive=True))
     lists = {device: {} for device in DEVICES}
-    for name in names:
-        if name.startswith("lists/differences/") or has_column(os.path.join(ROOT, name)):
-            found = lines_of(name)
-            if found:
-                lists[found[0]][os.path.basename(name)[: -len(".list")]] = (name, found[1])
+    for name, rows in told_lists():
+        if not unproved(rows):
+            device, lines = lines_of(name, rows)
+            lists[device][os.path.basename(name)[: -len(".list")]] = (name, lines)
     for device, (_, module, defining, proving, premises, arguments, unfolded) in DEVICES.items():
         told = HEAD + "use mathlib.Core.List.{List, [], _∷_}\n" + defining
         proved = HEAD + "use mathlib.Core.Path.{refl}\n" + proving
@@ -173,6 +180,9 @@ def main(words):
     if words == ["--check"]:
         all_files = list(files())
         different = [name for name, text in all_files if differs(name, text)]
+        for name, rows in told_lists():
+            if unproved(rows):
+                print(f"not proved: {name}: {unproved(rows)}")
         for name in different:
             print(f"FAILED {name} is not what the lists say: python3 lists/manual.py writes it")
         print(f"manual: {len(all_files) - len(different)} passed, {len(different)} failed")
