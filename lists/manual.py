@@ -28,8 +28,9 @@ CRATE = "crates/manual_lists"
 UNPROVED = "# The manual's answers are not proved: "
 # Lists in which firmware has started the manual's clock, and set it to the host's time, when that is first told.
 STARTED = ["lists/guests/linux-clock-alarm.list", "lists/guests/linux-clock-start.list"]
-# What the host asks of the device.
+# What the host asks of the device; and the write of a clock's word, which a chip does not answer either.
 ASKED = re.compile(r"room|state|save")
+UNANSWERED = re.compile(ASKED.pattern + r"|w .{4} .{8}")
 HEAD = "-- Written by lists/manual.py from the lists: change these.\n"
 KEPT = {"00": "line .dll", "01": "line .dlm", "07": "scr"}
 
@@ -130,9 +131,9 @@ def lines_of(name, rows):
         try:
             if access is None:
                 continue
+            if UNANSWERED.fullmatch(access) and "manual:" in text:
+                raise Trouble(f"`{access}` has no answer of a chip")
             if ASKED.fullmatch(access):
-                if "manual:" in text:
-                    raise Trouble(f"`{access}` asks the device: there is no such question to a chip")
                 continue
             lines.append(line_of(DEVICES[device][0], access, answer))
             if name in STARTED and access.startswith("now ") and not any(line.startswith("now ") for line in lines[:-1]):
@@ -156,7 +157,10 @@ def files():
     for name, rows in told_lists():
         if not unproved(rows):
             device, lines = lines_of(name, rows)
-            lists[device][os.path.basename(name)[: -len(".list")]] = (name, lines)
+            short = os.path.basename(name)[: -len(".list")]
+            if short in lists[device]:
+                raise Trouble(f"{name}: another list has this name")
+            lists[device][short] = (name, lines)
     for device, (_, module, defining, proving, premises, arguments, unfolded) in DEVICES.items():
         told = HEAD + "use mathlib.Core.List.{List, [], _∷_}\n" + defining
         proved = HEAD + "use mathlib.Core.Path.{refl}\n" + proving
