@@ -7,8 +7,8 @@
 
 A line of a list is `access => answer`, or `access => answer | manual: answer` where the chip's manual would answer otherwise, or
 `access => answer | original: answer` where vm-superio does; `tell` takes a plain `access` too. Empty lines and lines that begin with `#` are for
-the reader. REPLAY is a program that speaks the replay format (docs/REPLAY.md), with its arguments if it has some. Exit status: 0 all as told,
-1 some answer differs, 2 a list or REPLAY cannot be used.
+the reader. REPLAY is a program that speaks the replay format (docs/REPLAY.md), with its arguments if it has some. (The manual's answers are
+held to the chips' definitions, by proof: manual.py.) Exit status: 0 all as told, 1 some answer differs, 2 a list or REPLAY cannot be used.
 """
 import os
 import subprocess

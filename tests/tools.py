@@ -269,6 +269,23 @@ def replaced(folder, path, old, new):
         file.write(text.replace(old, new))
 
 
+def manual_status(break_it):
+    with tempfile.TemporaryDirectory() as folder:
+        for name in ["lists", "crates/manual_lists"]:
+            shutil.copytree(os.path.join(ROOT, name), os.path.join(folder, name))
+        break_it(folder)
+        return status(sys.executable, os.path.join(folder, "lists/manual.py"), "--check")
+
+
+def are_the_manuals_answers_those_that_are_proved():
+    return manual_status(lambda folder: None) == 0
+
+
+def is_another_answer_of_the_manual_seen():
+    path, answer = "lists/differences/serial-trigger-level.list", "manual: r cc 0"
+    return [manual_status(lambda folder: replaced(folder, path, answer, other)) for other in ("manual: r c4 0", "manual: late")] == [1, 2]
+
+
 def do_the_documents_hold_as_they_are():
     return docs_status(lambda folder: None) == 0
 
@@ -316,6 +333,8 @@ TESTS = [
     are_foreign_functions_seen,
     is_a_crate_that_is_not_proved_seen,
     is_an_axiom_trusted_in_vain_seen,
+    are_the_manuals_answers_those_that_are_proved,
+    is_another_answer_of_the_manual_seen,
     do_the_documents_hold_as_they_are,
     is_a_row_without_a_list_seen,
     is_a_constructor_without_a_row_seen,
