@@ -1,18 +1,15 @@
 -- A clock that was saved, written as bytes, read elsewhere and restored there goes on as it would have here.
-use mathlib.Core.Path.{_≡_, refl, sym, ap, _∙_}
+use mathlib.Core.Path.{_≡_, sym, ap, _∙_}
 use mathlib.Core.Bool.{true}
 use mathlib.Core.List.{List}
 use Prim.Native.Nat.{ℕ}
-use lib.ListN.{take}
 use Rattle.clock.specs.Layout.{Words, clockOf, spareOf}
-use Rattle.clock.specs.Runs.{Access, Result, Called}
 use Rattle.clock.proofs.Words.{same-for-ever, spare-stays}
 use Rattle.clock_saved.specs.Reachable.{ReachedWords}
-use Rattle.clock_saved.specs.Saved.{restoreAnswer, Restores}
+use Rattle.clock_saved.specs.Saved.{restoreAnswer}
 use Rattle.clock_saved.proofs.Exact.{words-exact}
-use Rattle.clock_saved.proofs.Saving.{restore-after-save, told-of-runs}
-use Rattle.clock_form.specs.Form.{hasForm, readForm}
-use Rattle.clock_form.specs.Calls.{Encodes, Decodes}
+use Rattle.clock_saved.proofs.Saving.{told-of-runs}
+use Rattle.clock_form.specs.Form.{hasForm}
 use Rattle.clock_form.proofs.RoundTrip.{decode-encoded}
 use Rattle.clock_form.proofs.Reached.{reached-has-form}
 use Rattle.moved.specs.RealTimeClock.{Leaves, Arrives, Same}
@@ -32,8 +29,8 @@ module _ {clock form clock′ : List ℕ} (w : Words clock) (l : Leaves clock fo
         read = back h .0;
         words = same;
         runs = λ here there.
-          let k = same-for-ever (ap clockOf same) there here in
-          (k .0, (k .1, spare-stays there ∙ ap spareOf same ∙ sym (spare-stays here)));
+            let k = same-for-ever (ap clockOf same) there here in
+            (k .0, (k .1, spare-stays there ∙ ap spareOf same ∙ sym (spare-stays here)));
       }
 
   -- So it is with every clock that calls on a fresh one reach, and the second host is told that they do.

@@ -1,5 +1,5 @@
 -- A serial port that was saved, written as bytes, read elsewhere and restored there goes on as it would have here.
-use mathlib.Core.Path.{_≡_, refl, sym, ap, subst, _∙_}
+use mathlib.Core.Path.{_≡_, refl, sym, ap, ap₂, subst, _∙_}
 use mathlib.Core.Bool.{Bool}
 use mathlib.Core.List.{List, [], _∷_, _++_}
 use Prim.Native.Nat.{ℕ, suc, _/_, _%_, _≤_}
@@ -14,13 +14,15 @@ use Rattle.runs.specs.Run.{Op, step, run}
 use Rattle.runs.specs.Reachable.{Reachable}
 use Rattle.play.specs.Play.{asks, decode, words, Plays}
 use Rattle.serial_saved.specs.Saved.{Restore}
-use Rattle.serial_saved.specs.Calls.{Saves, Restores}
+use Rattle.serial_saved.specs.Calls.{Restores}
 use Rattle.serial_saved.proofs.Bringing.{enough}
 use Rattle.serial_saved.proofs.Saving.{restore-after-save, saved-reachable}
-use Rattle.serial_form.specs.Form.{readForm}
-use Rattle.serial_form.specs.Calls.{written, Encodes, Decodes}
+use Rattle.histories.specs.History.{does, Host, starts, next, after}
+use Rattle.histories.specs.Calls.{Heard}
+use Rattle.histories.proofs.Called.{called-from, heard-from}
+use Rattle.serial_form.specs.Calls.{written}
 use Rattle.serial_form.proofs.RoundTrip.{there-and-back}
-use Rattle.moved.specs.SerialPort.{Leaves, Arrives, Same, SamePlayed}
+use Rattle.moved.specs.SerialPort.{Leaves, Arrives, Same, SamePlayed, deeds, Calls}
 
 -- there are sixteen registers where seven are spare
 sixteen : (regs : List ℕ) → spareRegisters regs ≡ freshSpareRegisters → length regs ≡ 16
@@ -44,7 +46,10 @@ module _ {regs pos ring form regs′ pos′ ring′ : List ℕ} (zero : spareReg
 
   -- the second host restores just what the first had saved
   restores : Restores (a .regs) (a .pos) (a .ring) (l .saved) (take (l .count) (l .waiting)) regs′ pos′ ring′ (a .word)
-  restores = rw (back .1 .0, waiting-back) at (a .restores)
+  restores =
+      subst (λ (saved : List ℕ). Restores (a .regs) (a .pos) (a .ring) saved (take (l .count) (l .waiting)) regs′ pos′ ring′ (a .word))
+      (back .1 .0)
+      (subst (λ (waiting : List ℕ). Restores (a .regs) (a .pos) (a .ring) (a .saved) waiting regs′ pos′ ring′ (a .word)) waiting-back (a .restores))
 
   same : portOf regs′ pos′ ring′ ≡ portOf regs pos ring
   same = restore-after-save (l .saves) restores .1
@@ -98,7 +103,28 @@ played-on {regs} {pos} {ring} {regs′ = regs′} {pos′} {ring′} zero l a os
           ∙ sym (ap (take (length os)) (x .answered) ∙ first-are (portOf regs pos ring) os _);
     }
 
--- What a fresh port comes to by such a call may be moved: its spare registers are 0.
+-- the same operations on the same port are answered the same
+heard-same : (h : Host) (os : List Op) (rs ss : List ℕ) → Heard h (deeds os) rs → Heard h (deeds os) ss → ss ≡ rs
+heard-same h [] rs ss x y = y ∙ sym x
+heard-same h (o ∷ os) [] ss x y = absurd x
+heard-same h (o ∷ os) (r ∷ rs) [] x y = absurd y
+heard-same h (o ∷ os) (r ∷ rs) (s ∷ ss) x y = ap₂ _∷_ (y .0 ∙ sym (x .0)) (heard-same (next h (does o)) os rs ss (x .1) (y .1))
+
+-- So it is by single calls, one after another.
+pub called-on : {regs pos ring form regs′ pos′ ring′ : List ℕ} → spareRegisters regs ≡ freshSpareRegisters → Leaves regs pos ring form
+    → Arrives form regs′ pos′ ring′
+    → (os : List Op) {regs₁ pos₁ ring₁ rs : List ℕ} → Calls regs pos ring os regs₁ pos₁ ring₁ rs
+    → {regs₂ pos₂ ring₂ ss : List ℕ} → Calls regs′ pos′ ring′ os regs₂ pos₂ ring₂ ss
+    → (ss ≡ rs) × (portOf regs₂ pos₂ ring₂ ≡ portOf regs₁ pos₁ ring₁)
+called-on {regs} {pos} {ring} zero l a os {rs = rs} here {ss = ss} there =
+    let m = moved zero l a in
+    let heard : Heard (starts (portOf regs pos ring)) (deeds os) ss =
+    subst (λ (p : Port). Heard (starts p) (deeds os) ss) (m .port) (heard-from there) in (
+      heard-same (starts (portOf regs pos ring)) os rs ss (heard-from here) heard,
+      called-from there ∙ ap (λ (p : Port). after (starts p) (deeds os) .here .port) (m .port) ∙ sym (called-from here),
+    )
+
+-- What a call of `play` makes of a fresh port may be moved: its spare registers are 0.
 pub movable : {regs₀ pos₀ ring₀ ops inputs answers regs pos ring answers′ : List ℕ} {r : Bool} → MakesFresh regs₀ pos₀
     → Plays regs₀ pos₀ ring₀ ops inputs answers regs pos ring answers′ r → spareRegisters regs ≡ freshSpareRegisters
 movable made played = played .sparesKept .0 ∙ made .sparesZero

@@ -2,11 +2,13 @@
 use Prim.Native.Nat.{ℕ, _/_, _%_, _≤_}
 use mathlib.Core.Path.{_≡_}
 use mathlib.Core.Bool.{Bool, true}
-use mathlib.Core.List.{List}
+use mathlib.Core.List.{List, [], _∷_}
 use lib.ListN.{length, take}
 use Rattle.serial.specs.Layout.{portOf, spareRegisters}
 use Rattle.runs.specs.Run.{Op, run}
 use Rattle.serial_saved.specs.Calls.{Saves, Restores}
+use Rattle.histories.specs.History.{Deed, does}
+use Rattle.histories.specs.Calls.{Called}
 use Rattle.serial_form.specs.Form.{readForm}
 use Rattle.serial_form.specs.Calls.{Encodes, Decodes}
 
@@ -54,3 +56,12 @@ pub record SamePlayed (many : ℕ) (regs pos ring answers : List ℕ) (r : Bool)
   pub port : portOf regs′ pos′ ring′ ≡ portOf regs pos ring
   pub spares : spareRegisters regs′ ≡ spareRegisters regs
   pub answered : take many answers′ ≡ take many answers
+
+-- The same by single calls, one after another on a port's memory, with the word that each answers.
+abbrev pub deeds : List Op → List Deed
+deeds [] = []
+deeds (o ∷ os) = does o ∷ deeds os
+
+abbrev pub Calls : List ℕ → List ℕ → List ℕ → List Op → List ℕ → List ℕ → List ℕ → List ℕ → Type 0
+Calls regs pos ring os regs₁ pos₁ ring₁ rs =
+    Called (record { regs = regs; pos = pos; ring = ring }) [] (deeds os) (record { regs = regs₁; pos = pos₁; ring = ring₁ }) rs
