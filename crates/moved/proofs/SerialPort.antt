@@ -1,5 +1,5 @@
 -- A serial port that was saved, written as bytes, read elsewhere and restored there goes on as it would have here.
-use mathlib.Core.Path.{_≡_, refl, sym, ap, ap₂, subst, _∙_}
+use mathlib.Core.Path.{_≡_, refl, sym, ap, subst, _∙_}
 use mathlib.Core.Bool.{Bool}
 use mathlib.Core.List.{List, [], _∷_, _++_}
 use Prim.Native.Nat.{ℕ, suc, _/_, _%_, _≤_}
@@ -12,17 +12,15 @@ use Rattle.serial.specs.Calls.{MakesFresh}
 use Rattle.serial.proofs.Bounds.{memory-fits}
 use Rattle.runs.specs.Run.{Op, step, run}
 use Rattle.runs.specs.Reachable.{Reachable}
-use Rattle.play.specs.Play.{asks, decode, words, Plays}
+use Rattle.play.specs.Play.{asks, decode, words, Calls, Plays}
+use Rattle.play.proofs.Playing.{calls-run}
 use Rattle.serial_saved.specs.Saved.{Restore}
 use Rattle.serial_saved.specs.Calls.{Restores}
 use Rattle.serial_saved.proofs.Bringing.{enough}
 use Rattle.serial_saved.proofs.Saving.{restore-after-save, saved-reachable}
-use Rattle.histories.specs.History.{does, Host, starts, next, after}
-use Rattle.histories.specs.Calls.{Heard}
-use Rattle.histories.proofs.Called.{called-from, heard-from}
 use Rattle.serial_form.specs.Calls.{written}
 use Rattle.serial_form.proofs.RoundTrip.{there-and-back}
-use Rattle.moved.specs.SerialPort.{Leaves, Arrives, Same, SamePlayed, deeds, Calls}
+use Rattle.moved.specs.SerialPort.{Leaves, Arrives, Same, SamePlayed}
 
 -- there are sixteen registers where seven are spare
 sixteen : (regs : List ℕ) → spareRegisters regs ≡ freshSpareRegisters → length regs ≡ 16
@@ -103,25 +101,18 @@ played-on {regs} {pos} {ring} {regs′ = regs′} {pos′} {ring′} zero l a os
           ∙ sym (ap (take (length os)) (x .answered) ∙ first-are (portOf regs pos ring) os _);
     }
 
--- the same operations on the same port are answered the same
-heard-same : (h : Host) (os : List Op) (rs ss : List ℕ) → Heard h (deeds os) rs → Heard h (deeds os) ss → ss ≡ rs
-heard-same h [] rs ss x y = y ∙ sym x
-heard-same h (o ∷ os) [] ss x y = absurd x
-heard-same h (o ∷ os) (r ∷ rs) [] x y = absurd y
-heard-same h (o ∷ os) (r ∷ rs) (s ∷ ss) x y = ap₂ _∷_ (y .0 ∙ sym (x .0)) (heard-same (next h (does o)) os rs ss (x .1) (y .1))
-
 -- So it is by single calls, one after another.
 pub called-on : {regs pos ring form regs′ pos′ ring′ : List ℕ} → spareRegisters regs ≡ freshSpareRegisters → Leaves regs pos ring form
     → Arrives form regs′ pos′ ring′
     → (os : List Op) {regs₁ pos₁ ring₁ rs : List ℕ} → Calls regs pos ring os regs₁ pos₁ ring₁ rs
     → {regs₂ pos₂ ring₂ ss : List ℕ} → Calls regs′ pos′ ring′ os regs₂ pos₂ ring₂ ss
     → (ss ≡ rs) × (portOf regs₂ pos₂ ring₂ ≡ portOf regs₁ pos₁ ring₁)
-called-on {regs} {pos} {ring} zero l a os {rs = rs} here {ss = ss} there =
-    let m = moved zero l a in
-    let heard : Heard (starts (portOf regs pos ring)) (deeds os) ss =
-    subst (λ (p : Port). Heard (starts p) (deeds os) ss) (m .port) (heard-from there) in (
-      heard-same (starts (portOf regs pos ring)) os rs ss (heard-from here) heard,
-      called-from there ∙ ap (λ (p : Port). after (starts p) (deeds os) .here .port) (m .port) ∙ sym (called-from here),
+called-on zero l a os here there =
+    let same = moved zero l a .port in
+    let x = calls-run os here in
+    let y = calls-run os there in (
+      y .1 ∙ ap (λ (p : Port). words (run p os .answers)) same ∙ sym (x .1),
+      y .0 ∙ ap (λ (p : Port). run p os .port) same ∙ sym (x .0),
     )
 
 -- What a call of `play` makes of a fresh port may be moved: its spare registers are 0.

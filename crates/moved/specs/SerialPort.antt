@@ -2,23 +2,21 @@
 use Prim.Native.Nat.{ℕ, _/_, _%_, _≤_}
 use mathlib.Core.Path.{_≡_}
 use mathlib.Core.Bool.{Bool, true}
-use mathlib.Core.List.{List, [], _∷_}
+use mathlib.Core.List.{List}
 use lib.ListN.{length, take}
 use Rattle.serial.specs.Layout.{portOf, spareRegisters}
 use Rattle.runs.specs.Run.{Op, run}
 use Rattle.serial_saved.specs.Calls.{Saves, Restores}
-use Rattle.histories.specs.History.{Deed, does}
-use Rattle.histories.specs.Calls.{Called}
 use Rattle.serial_form.specs.Form.{readForm}
 use Rattle.serial_form.specs.Calls.{Encodes, Decodes}
 
--- The first host saves its port, and writes what it saved into memory with room for the form: so many bytes of that memory leave.
+-- The first host saves its port, whatever lay where it saves the waiting bytes to, and writes what it saved into memory with room for the form: so many bytes of that memory leave.
 pub record Leaves (regs pos ring form : List ℕ) : Type 0 where
-  pub unused : List ℕ
+  pub waiting₀ : List ℕ
   pub saved : List ℕ
   pub waiting : List ℕ
   pub count : ℕ
-  pub saves : Saves regs pos ring unused saved waiting count
+  pub saves : Saves regs pos ring waiting₀ saved waiting count
   pub memory : List ℕ
   pub memory′ : List ℕ
   pub long : ℕ
@@ -56,12 +54,3 @@ pub record SamePlayed (many : ℕ) (regs pos ring answers : List ℕ) (r : Bool)
   pub port : portOf regs′ pos′ ring′ ≡ portOf regs pos ring
   pub spares : spareRegisters regs′ ≡ spareRegisters regs
   pub answered : take many answers′ ≡ take many answers
-
--- The same by single calls, one after another on a port's memory, with the word that each answers.
-abbrev pub deeds : List Op → List Deed
-deeds [] = []
-deeds (o ∷ os) = does o ∷ deeds os
-
-abbrev pub Calls : List ℕ → List ℕ → List ℕ → List Op → List ℕ → List ℕ → List ℕ → List ℕ → Type 0
-Calls regs pos ring os regs₁ pos₁ ring₁ rs =
-    Called (record { regs = regs; pos = pos; ring = ring }) [] (deeds os) (record { regs = regs₁; pos = pos₁; ring = ring₁ }) rs
