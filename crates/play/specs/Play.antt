@@ -6,6 +6,7 @@ use mathlib.Core.List.{List, [], _∷_, _++_}
 use lib.ListN.{length, take, drop}
 use lib.Dec.{eqb, leb}
 use Rattle.common.specs.Lists.{some}
+use Rattle.common.specs.Bytes.{Bytes}
 use Rattle.serial.specs.Port.{Port}
 use Rattle.serial.specs.Layout.{portOf}
 use Rattle.serial.specs.Calls.{refusedBit, oneRaise, sentWord, SparesKept, Answers}
@@ -61,6 +62,23 @@ offered room = []
 abbrev pub allOffered : List Op → List ℕ
 allOffered [] = []
 allOffered (o ∷ os) = offered o ++ allOffered os
+
+-- The operations that can be written so: offsets, values and inputs are bytes, and no input is longer than two bytes say.
+abbrev pub Writable : Op → Type 0
+Writable (read offset) = offset < 256
+Writable (write offset value) = (offset < 256) × (value < 256)
+Writable (input bytes) = (length bytes < 65536) × Bytes bytes
+Writable room = Unit {0}
+
+abbrev pub AllWritable : List Op → Type 0
+AllWritable [] = Unit {0}
+AllWritable (o ∷ os) = Writable o × AllWritable os
+
+-- Some bytes are this run.
+pub record WrittenAs (os : List Op) (ops inputs : List ℕ) : Type 0 where
+  pub ops-bytes : Bytes ops
+  pub inputs-bytes : Bytes inputs
+  pub meant : decode ops inputs ≡ asks os
 
 -- ---- Answers
 
