@@ -142,7 +142,7 @@ module _ (ops inputs : List ℕ) (at from : ℕ) (s : Scanned ops inputs at from
       go [] e = sym (eq-eqb from (length inputs) (omega arith))
       go (x ∷ l) e = sym (ne-eqb from (length inputs) (λ z. omega arith))
 
--- ---- Every run can be written so
+-- ---- What is written of a run is read as that run
 
 decode-op : (o : Op) (rest more : List ℕ) → decode (encodeOp o ++ rest) (offered o ++ more) ≡ before o (decode rest more)
 decode-op (read offset) rest more = decode-on 0 offset 0 rest more (lit≤ tt) (omega arith)

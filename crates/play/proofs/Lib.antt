@@ -1,4 +1,5 @@
--- What a run's bytes mean, playing them one after the other, the words of the single calls.
+-- What a run's bytes mean and which runs have some, playing them one after the other, the words of the single calls.
 pub mod Decoding
+pub mod Writing
 pub mod Playing
 pub mod Words

@@ -6,9 +6,10 @@ use mathlib.Core.List.{List, [], _∷_, _++_}
 use lib.ListN.{length, take, drop}
 use lib.Dec.{eqb, leb}
 use Rattle.common.specs.Lists.{some}
+use Rattle.common.specs.Bytes.{Bytes}
 use Rattle.serial.specs.Port.{Port}
 use Rattle.serial.specs.Layout.{portOf}
-use Rattle.serial.specs.Calls.{refusedBit, oneRaise, sentWord, SparesKept}
+use Rattle.serial.specs.Calls.{refusedBit, oneRaise, sentWord, SparesKept, Answers}
 use Rattle.runs.specs.Run.{Op, read, write, input, room, Answer, replied, sent, took, full, hasRoom, step, run}
 
 -- ---- Operations
@@ -62,6 +63,23 @@ abbrev pub allOffered : List Op → List ℕ
 allOffered [] = []
 allOffered (o ∷ os) = offered o ++ allOffered os
 
+-- The operations that can be written so: offsets, values and inputs are bytes, and no input is longer than two bytes say.
+abbrev pub Writable : Op → Type 0
+Writable (read offset) = offset < 256
+Writable (write offset value) = (offset < 256) × (value < 256)
+Writable (input bytes) = (length bytes < 65536) × Bytes bytes
+Writable room = Unit {0}
+
+abbrev pub AllWritable : List Op → Type 0
+AllWritable [] = Unit {0}
+AllWritable (o ∷ os) = Writable o × AllWritable os
+
+-- Some bytes are this run.
+pub record WrittenAs (os : List Op) (ops inputs : List ℕ) : Type 0 where
+  pub ops-bytes : Bytes ops
+  pub inputs-bytes : Bytes inputs
+  pub meant : decode ops inputs ≡ asks os
+
 -- ---- Answers
 
 -- The word that the call by itself answers: the reply, the byte sent, the bytes taken, "full", and the raises; the room.
@@ -83,6 +101,24 @@ pub record Does (p : Port) (o : Op) (p′ : Port) (r : ℕ) : Type 0 where
   pub port : p′ ≡ step p o .port
   pub answer : r ≡ word (step p o .answer)
 
+-- What the call by itself promises of it: the word and the port; the bytes of the ring that do not wait after it are as they were, and so is
+-- what is spare; where the port stays what it was not a byte changes.
+abbrev pub Answered : Op → List ℕ → List ℕ → List ℕ → List ℕ → List ℕ → List ℕ → ℕ → Type 0
+Answered o regs pos ring regs′ pos′ ring′ r =
+    let d = step (portOf regs pos ring) o in Answers regs pos ring regs′ pos′ ring′ r (d .port) (word (d .answer))
+
+-- Operations one after another on the same memory, each as its own call promises, with the word of each.
+pub data Calls : List ℕ → List ℕ → List ℕ → List Op → List ℕ → List ℕ → List ℕ → List ℕ → Type 0 where
+  none : {regs pos ring : List ℕ} → Calls regs pos ring [] regs pos ring []
+  then : {regs pos ring regs₁ pos₁ ring₁ regs′ pos′ ring′ : List ℕ} {o : Op} {os : List Op} {r : ℕ} {rs : List ℕ}
+      → Answered o regs pos ring regs₁ pos₁ ring₁ r → Calls regs₁ pos₁ ring₁ os regs′ pos′ ring′ rs
+      → Calls regs pos ring (o ∷ os) regs′ pos′ ring′ (r ∷ rs)
+
+-- No operation changes the port.
+abbrev pub Stays : Port → List Op → Type 0
+Stays p [] = Unit {0}
+Stays p (o ∷ os) = (step p o .port ≡ p) × Stays p os
+
 -- The port is the one after the run, and the first answers are the run's.
 pub record Played (p : Port) (os : List Op) (answers : List ℕ) (p′ : Port) (answers′ : List ℕ) (r : Bool) : Type 0 where
   pub said : r ≡ true
@@ -97,14 +133,20 @@ pub record Refused (regs pos ring answers regs′ pos′ ring′ answers′ : Li
   pub ring-stay : ring′ ≡ ring
   pub answers-stay : answers′ ≡ answers
 
--- What is malformed, or asks more than there is room to answer, is refused. What is spare in the memory stays.
+-- What is malformed, or asks more than there is room to answer, is refused. What is played is what the single calls would have done, one after
+-- another. What is spare in the memory stays, and where no operation changes the port not a byte of the memory changes. (A run may come back
+-- to the port that it left and have moved the waiting bytes; and a byte that came and was read lies in the ring still.)
 pub record Plays (regs pos ring ops inputs answers regs′ pos′ ring′ answers′ : List ℕ) (r : Bool) : Type 0 where
   pub plays : (os : List Op) → decode ops inputs ≡ asks os → length os ≤ length answers
       → Played (portOf regs pos ring) os answers (portOf regs′ pos′ ring′) answers′ r
+  pub byCalls : (os : List Op) → decode ops inputs ≡ asks os → length os ≤ length answers
+      → Calls regs pos ring os regs′ pos′ ring′ (take (length os) answers′)
   pub too-many : (os : List Op) → decode ops inputs ≡ asks os → length answers < length os
       → Refused regs pos ring answers regs′ pos′ ring′ answers′ r
   pub no-run : decode ops inputs ≡ malformed → Refused regs pos ring answers regs′ pos′ ring′ answers′ r
   pub sparesKept : SparesKept regs pos regs′ pos′
+  pub unchangedIfSamePort : (os : List Op) → decode ops inputs ≡ asks os → Stays (portOf regs pos ring) os
+      → (regs′ ≡ regs) × ((pos′ ≡ pos) × (ring′ ≡ ring))
 
 -- It is a run.
 abbrev pub isRun : Decoded → Bool

@@ -5,9 +5,7 @@ use serial::memory::Regs;
 use serial::memory::Ring;
 ghost use mathlib.Core.Path.{_≡_};
 ghost use Prim.Native.Nat.{_≤_};
-ghost use Rattle.serial.specs.Layout.{portOf};
-ghost use Rattle.serial.specs.Calls.{SparesKept};
-ghost use Rattle.play.specs.Play.{inputBytes, opOf, decode, isRun, Does, Plays};
+ghost use Rattle.play.specs.Play.{inputBytes, opOf, decode, isRun, Answered, Plays};
 
 fn wide(byte: u8) -> usize
     ensures { λ r. ⌜ r ≡ byte ⌝ }
@@ -61,11 +59,9 @@ fn play_one(
     bytes: &[u8],
 ) -> u32
     ensures { λ r. ⌜
-        Does (portOf (now (regs .entry)) (now (pos .entry)) (now (ring .entry)))
-        (opOf kind a b (now (bytes .entry)))
-        (portOf (now (regs .exit)) (now (pos .exit)) (now (ring .exit))) r
+        Answered (opOf kind a b (now (bytes .entry))) (now (regs .entry)) (now (pos .entry)) (now (ring .entry))
+        (now (regs .exit)) (now (pos .exit)) (now (ring .exit)) r
         ⌝ }
-    ensures { λ r. ⌜ SparesKept (now (regs .entry)) (now (pos .entry)) (now (regs .exit)) (now (pos .exit)) ⌝ }
 {
     match kind {
         0 => {

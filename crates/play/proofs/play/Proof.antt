@@ -1,20 +1,19 @@
 -- `play` meets its contract. The loop's invariant: the run is what the operations played so far did and what is left does.
-use mathlib.Core.Path.{refl, sym, _∙_}
+use mathlib.Core.Path.{sym, _∙_}
 use Prim.Native.Nat.{_+_, _-_, _*_, _<_, _≤_}
 use native.Mathlib.Omega.{arith}
 use borrow.Author.Needs.{needs}
 use lib.ListN.{length}
 use Rattle.serial.specs.Layout.{portOf}
-use Rattle.serial.specs.Calls.{SparesKept}
 use borrow.Author.Tests.{not-true, not-false}
 use Rattle.play.proofs.Decoding.{takesAt}
-use Rattle.play.proofs.Playing.{Playing, kept-on, playing-none, next-bytes, playing-next, refuses-no-run, refuses-too-many, plays-all}
+use Rattle.play.proofs.Playing.{Playing, Through, playing-none, through-none, next-bytes, playing-next, through-next, refuses-no-run, refuses-too-many, plays-all}
 use Rattle.play.proofs.play.Statement.{statement}
 use Rattle.play.proofs.play.Tie as tie
 
 abbrev Inv-loop : tie.InvT-loop
 Inv-loop regs₀ pos₀ ring₀ ops inputs answers₀ count from₀ i₀ regs pos ring answers from i =
-    Playing (portOf regs₀ pos₀ ring₀) ops inputs answers₀ (portOf regs pos ring) answers i from × SparesKept regs₀ pos₀ regs pos
+    Playing (portOf regs₀ pos₀ ring₀) ops inputs answers₀ (portOf regs pos ring) answers i from × Through regs₀ pos₀ ring₀ ops inputs regs pos ring answers i from
 
 abbrev μ-loop : tie.MeasureT-loop
 μ-loop regs₀ pos₀ ring₀ ops inputs answers₀ count from₀ i₀ regs pos ring answers from i = count - i
@@ -41,7 +40,7 @@ returns-2 c = let g = c .before .before .before .before .before .before .args in
 
 loop-holds : tie.Need-loop-holds Inv-loop μ-loop
 loop-holds c =
-    (playing-none _ _ _ _ (sym (c .before .before .is-run .ensures) ∙ not-false _ (c .before .if1 .left)), (refl, refl))
+    (playing-none _ _ _ _ (sym (c .before .before .is-run .ensures) ∙ not-false _ (c .before .if1 .left)), through-none _ _ _ _ _ _)
 
 mul-at : tie.Need-mul-at Inv-loop μ-loop
 mul-at c = omega (arith, whole-here c)
@@ -93,17 +92,22 @@ loop-less : tie.Need-loop-less Inv-loop μ-loop
 loop-less c = omega (arith, c .before .before .before .before .before .before .before .before .before .loop-test .taken)
 
 loop-again : tie.Need-loop-again Inv-loop μ-loop
-loop-again c = (
-  playing-next _ _ _ _ _ _ _ _ (c .before .before .before .before .before .before .before .before .before .before .loop .inv .0) (whole-here (c .before .before .before .before .before .before .before .before .before)) _ _ _ (place-here (c .before .before .before .before .before .before .before .before .before)) (c .before .before .before .before .before .input-bytes .ensures) (c .play-one .ensures .0),
-  kept-on (c .before .before .before .before .before .before .before .before .before .before .loop .inv .1) (c .play-one .ensures .1),
-)
+loop-again c =
+    let a = c .play-one .ensures in
+    let inv = c .before .before .before .before .before .before .before .before .before .before .loop .inv in
+    let whole = whole-here (c .before .before .before .before .before .before .before .before .before) in
+    let place = place-here (c .before .before .before .before .before .before .before .before .before) in
+    let lent = c .before .before .before .before .before .input-bytes .ensures in (
+      playing-next _ _ _ _ _ _ _ _ (inv .0) whole _ _ _ place lent (record { port = a .holds; answer = a .answer }),
+      through-next _ _ _ _ _ _ _ _ (inv .0) whole _ _ place lent (inv .1) a,
+    )
 
 same-length : tie.Need-same-length Inv-loop μ-loop
 same-length c = omega (arith, c .before .loop .inv .0 .long)
 
 returns-3 : tie.Need-returns-3 Inv-loop μ-loop
 returns-3 c =
-    plays-all _ _ _ _ _ _ (sym (c .before .before .before .before .is-run .ensures) ∙ not-false _ (c .before .before .before .if1 .left)) (c .before .before .if2 .left) _ _ _ _ _ _ (c .before .loop .inv .0) (c .loop-test .left) (c .before .loop .inv .1)
+    plays-all _ _ _ _ _ _ (sym (c .before .before .before .before .is-run .ensures) ∙ not-false _ (c .before .before .before .if1 .left)) (c .before .before .if2 .left) _ _ _ _ _ _ (c .before .loop .inv .0) (c .before .loop .inv .1) (c .loop-test .left)
 
 pub play-spec : {M : Type 1} → statement M
 play-spec =

@@ -1,7 +1,6 @@
 -- `play_one` meets its contract: each arm is one of the four operations.
 use borrow.Author.Needs.{needs}
-use mathlib.Core.Path.{refl}
-use Rattle.play.proofs.Words.{does-read, does-write, does-input, does-room}
+use Rattle.play.proofs.Words.{answers-read, answers-write, answers-input, answers-room}
 use Rattle.play.proofs.play_one.Statement.{statement}
 use Rattle.play.proofs.play_one.Tie as tie
 
@@ -11,8 +10,7 @@ read-requires c κs = search needs
 returns : tie.Need-returns
 returns c =
     let g = c .before .before .before .before .before .before .args in
-    let e = c .read .ensures in
-    (does-read _ (g .a) (g .b) (g .bytes .now) _ _ (g .kind) (c .before .before .before .before .match .keys1) (e .holds) (e .answer), e .sparesKept)
+    answers-read (g .kind) (g .a) (g .b) (g .bytes .now) (c .before .before .before .before .match .keys1) (c .read .ensures)
 
 write-requires : tie.Need-write-requires
 write-requires c κs = search needs
@@ -20,8 +18,7 @@ write-requires c κs = search needs
 returns-2 : tie.Need-returns-2
 returns-2 c =
     let g = c .before .before .before .before .before .before .args in
-    let e = c .write .ensures in
-    (does-write _ (g .a) (g .b) (g .bytes .now) _ _ (g .kind) (c .before .before .before .before .match .keys2) (e .holds) (e .answer), e .sparesKept)
+    answers-write (g .kind) (g .a) (g .b) (g .bytes .now) (c .before .before .before .before .match .keys2) (c .write .ensures)
 
 input-requires : tie.Need-input-requires
 input-requires c κs = search needs
@@ -29,8 +26,7 @@ input-requires c κs = search needs
 returns-3 : tie.Need-returns-3
 returns-3 c =
     let g = c .before .before .before .before .before .before .args in
-    let e = c .input .ensures in
-    (does-input _ (g .a) (g .b) (g .bytes .now) _ _ (g .kind) (c .before .before .before .before .match .keys3) (e .holds) (e .answer), e .sparesKept)
+    answers-input (g .kind) (g .a) (g .b) (g .bytes .now) (c .before .before .before .before .match .keys3) (c .input .ensures)
 
 room-requires : tie.Need-room-requires
 room-requires c κs = search needs
@@ -39,7 +35,7 @@ returns-4 : tie.Need-returns-4
 returns-4 c =
     let g = c .before .before .before .before .args in
     let m = c .before .before .match .rest in
-    (does-room _ (g .a) (g .b) (g .bytes .now) _ _ (g .kind) (m .0 .0 .1) (m .0 .1) (m .1) refl (c .room .ensures _ _), (refl, refl))
+    answers-room (g .kind) (g .a) (g .b) (g .bytes .now) (m .0 .0 .1) (m .0 .1) (m .1) (c .room .ensures _ _)
 
 pub play-one-spec : {M : Type 1} → statement M
 play-one-spec =
