@@ -16,3 +16,4 @@ pub mod Witness
 pub mod Pinned
 pub mod RunTest
 pub mod Useful
+pub mod Behind

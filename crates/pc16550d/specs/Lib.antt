@@ -3,3 +3,4 @@ pub mod Chip
 pub mod Compare
 pub mod Runs
 pub mod Drivers
+pub mod Behind
