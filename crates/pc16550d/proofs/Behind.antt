@@ -12,7 +12,7 @@ use borrow.Author.Tests.{eqb-true, ltb-true, ltb-false, lt-ltb, le-ltb}
 use Rattle.common.specs.Bits.{on}
 use Rattle.common.specs.Lists.{some}
 use Rattle.sidebyside.specs.Answers.{Said, says, silent, none, Answer, answers, refuses, Fits}
-use Rattle.sidebyside.specs.Runs.{deviceAfter, chipAfter}
+use Rattle.sidebyside.specs.Runs.{Meets, deviceAfter, chipAfter}
 use Rattle.interrupts.specs.Interrupts.{receivedData, transmitterEmpty, ierStored, isHigh}
 use Rattle.serial.specs.Port.{Port, Register, addressed, isOpen, inLoop, active, line, readRegister, writeRegister, RBR-THR, IER, IIR-FCR, LCR}
 use Rattle.serial.specs.Port.{MCR, LSR, MSR, SCR, DLL, DLM, reserved, inputOf}
@@ -25,7 +25,7 @@ use Rattle.pc16550d.specs.Compare.{Done, accessed, deviceDoes, chipOf, e
 use Rattle.pc16550d.specs.Compare.{receives, fed, pair, serial-transmitter-again, serial-line-overrun}
 use Rattle.pc16550d.specs.Runs.{begins}
 use Rattle.pc16550d.specs.Behind.{tuned, Follows, holds, carefulWrite, careful, carefulRun, compared, comparedAt, FitsBy, AlikeBehind}
-use Rattle.pc16550d.specs.Behind.{AlikeRun, linuxStarts, linuxOpens, linuxWorks}
+use Rattle.pc16550d.specs.Behind.{AlikeRun, linuxBoots}
 use Rattle.pc16550d.proofs.Agreement.{named, same-map, pin-is, Signal, calm, each-raised, both-true}
 use Rattle.pc16550d.proofs.Reading.{ReadAgrees, read-complete, loop-kept}
 use Rattle.pc16550d.proofs.Writing.{WriteAgrees}
@@ -33,6 +33,7 @@ use Rattle.pc16550d.proofs.Transmitting.{dataAfter, written, thr-next, 
 use Rattle.pc16550d.proofs.Enabling.{ier-write}
 use Rattle.pc16550d.proofs.OnLine.{InputAgrees, input-complete}
 use Rattle.pc16550d.proofs.Keeping.{keeps, fresh-sound}
+use Rattle.pc16550d.proofs.Alongside.{runs}
 use Rattle.pc16550d.proofs.Computing.{computing}
 
 -- ---- A call: it looks alike, and the chip follows on
@@ -415,10 +416,22 @@ unfolding chipOf
 follows-first p = record { same = refl; four = lit< tt; quiet = refl }
 
 -- ---- Linux, from the fresh device
-pub linux-careful : carefulRun (chipOf begins) (linuxStarts ++ (linuxOpens ++ linuxWorks)) ≡ true
+begins-sound : Sound begins
+begins-sound = fresh-sound 64 (lit≤ tt)
+
+-- It meets a row in its first steps.
+pub linux-meets : Meets pair begins (chipOf begins) linuxBoots
+unfolding computing
+linux-meets =
+    elim (runs begins begins-sound linuxBoots) [
+      | inl same ↦ let z : _≡_ {A = ℕ} 0x90 0x92 = same .1 .1 .1 .1 .1 .1 .0 .reply in absurd (omega arith)
+      | inr meets ↦ meets
+    ]
+
+-- It is careful, and so looks alike throughout.
+pub linux-careful : carefulRun (chipOf begins) linuxBoots ≡ true
 unfolding computing carefulWrite careful carefulRun
 linux-careful = refl
 
-pub linux-alike : AlikeRun begins (chipOf begins) (linuxStarts ++ (linuxOpens ++ linuxWorks))
-linux-alike =
-    behind begins (fresh-sound 64 (lit≤ tt)) (chipOf begins) (follows-first begins) (linuxStarts ++ (linuxOpens ++ linuxWorks)) linux-careful
+pub linux-alike : AlikeRun begins (chipOf begins) linuxBoots
+linux-alike = behind begins begins-sound (chipOf begins) (follows-first begins) linuxBoots linux-careful

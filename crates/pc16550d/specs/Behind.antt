@@ -2,7 +2,7 @@
 -- alike at every call, for ever.
 use Prim.Native.Nat.{ℕ, _+_, _/_, _%_, _<_}
 use mathlib.Core.Path.{_≡_}
-use mathlib.Core.List.{List, [], _∷_}
+use mathlib.Core.List.{List, [], _∷_, _++_}
 use mathlib.Core.Bool.{Bool, true, false, not, _&&_, _||_}
 use lib.ListN.{length}
 use lib.Bits.{bitAnd}
@@ -14,6 +14,7 @@ use Rattle.pc16550d.specs.Chip.{Chip, Register, RBR-THR, IER, IIR-FCR, L
 use Rattle.pc16550d.specs.Chip.{pin, enabled, modemStatus, depth, inLoop, writeFcr, writeMcr, Op, read, write, input, chipDoes}
 use Rattle.pc16550d.specs.Chip as chip
 use Rattle.pc16550d.specs.Compare.{Done, deviceDoes, chipOf}
+use Rattle.pc16550d.specs.Drivers.{linuxReceives, linuxPrintsTypedAt}
 
 -- ---- A port, and a chip that has run beside it
 
@@ -116,8 +117,8 @@ AlikeRun p c (o ∷ os) =
 
 -- ---- Linux
 
--- Its 8250 driver starts as in lists/guests/linux-8250-start.list: it looks for a port, tries the loop and the FIFOs, empties them and turns
--- them off; sets the line up and tests the transmitter.
+-- Its 8250 driver starts, as in lists/guests/linux-8250-start.list: it looks for a port, tries the loop and the FIFOs, empties them and turns
+-- them off, sets the line up and tests the transmitter.
 abbrev pub linuxStarts : List Op
 linuxStarts =
     write 1 0x00 ∷ read 1 ∷ write 1 0x0f ∷ read 1 ∷ write 1 0x00
@@ -125,16 +126,16 @@ linuxStarts =
     ∷ write 2 0x01 ∷ read 2 ∷ write 2 0x01 ∷ write 2 0x07 ∷ write 2 0x00
     ∷ read 5 ∷ read 0 ∷ read 2 ∷ read 6 ∷ write 3 0x03 ∷ write 4 0x0b ∷ write 1 0x02 ∷ read 2 ∷ read 2 ∷ write 1 0x00 ∷ []
 
--- The line's speed, and FIFOs at trigger level 8; received data and line status are enabled.
+-- The port is opened: the divisor, eight bits, FIFOs at trigger level 8; received data and line status are enabled.
 abbrev pub linuxOpens : List Op
-linuxOpens =
-    write 3 0x93 ∷ write 0 0x01 ∷ write 1 0x00 ∷ write 3 0x13 ∷ write 2 0x01 ∷ write 2 0x81 ∷ write 4 0x0b ∷ write 1 0x05 ∷ []
+linuxOpens = write 3 0x83 ∷ write 0 0x01 ∷ write 1 0x00 ∷ write 3 0x03 ∷ write 2 0x01 ∷ write 2 0x81 ∷ write 4 0x0b ∷ write 1 0x05 ∷ []
 
--- A receive interrupt with three bytes, below the trigger level. Then output by interrupts: two bytes are written at once, and two more.
--- Then the console prints with IER 0.
-abbrev pub linuxWorks : List Op
-linuxWorks =
-    input (0x41 ∷ 0x42 ∷ 0x43 ∷ []) ∷ read 2 ∷ read 5 ∷ read 0 ∷ read 5 ∷ read 0 ∷ read 5 ∷ read 0 ∷ read 5 ∷ read 2
-    ∷ write 1 0x07 ∷ read 2 ∷ read 5 ∷ write 0 0x68 ∷ write 0 0x65 ∷ read 2 ∷ read 5 ∷ write 0 0x79 ∷ write 0 0x0a ∷ read 2 ∷ read 5
-    ∷ write 1 0x05 ∷ read 2
-    ∷ read 1 ∷ write 1 0x00 ∷ read 5 ∷ write 0 0x48 ∷ read 5 ∷ write 0 0x69 ∷ read 5 ∷ write 1 0x05 ∷ []
+-- It sends by interrupts, two bytes each time.
+abbrev pub linuxSends : List Op
+linuxSends =
+    write 1 0x07 ∷ read 2 ∷ read 5 ∷ write 0 0x68 ∷ write 0 0x65 ∷ read 2 ∷ read 5 ∷ write 0 0x79 ∷ write 0 0x0a
+    ∷ read 2 ∷ read 5 ∷ write 1 0x05 ∷ read 2 ∷ []
+
+-- Then it receives three bytes, below the trigger level, sends, and prints on its console while a key is pressed.
+abbrev pub linuxBoots : List Op
+linuxBoots = linuxStarts ++ (linuxOpens ++ (linuxReceives ++ (linuxSends ++ linuxPrintsTypedAt)))
