@@ -14,11 +14,11 @@ use Rattle.common.specs.Lists.{some}
 use Rattle.sidebyside.specs.Answers.{Said, says, silent, none, Answer, answers, refuses, Fits}
 use Rattle.sidebyside.specs.Runs.{Meets, deviceAfter, chipAfter}
 use Rattle.interrupts.specs.Interrupts.{receivedData, transmitterEmpty, ierStored, isHigh}
-use Rattle.serial.specs.Port.{Port, Register, addressed, isOpen, inLoop, active, line, readRegister, writeRegister, RBR-THR, IER, IIR-FCR, LCR}
-use Rattle.serial.specs.Port.{MCR, LSR, MSR, SCR, DLL, DLM, reserved, inputOf}
+use Rattle.serial.specs.Port.{Port, Register, addressed, isOpen, inLoop, active, line, readRegister, writeRegister, RBR-THR, IER, IIR-FCR}
+use Rattle.serial.specs.Port.{LCR, MCR, LSR, MSR, SCR, DLL, DLM, reserved, inputOf}
 use Rattle.serial.specs.Port as device
-use Rattle.pc16550d.specs.Chip.{Chip, Receiver, pin, modemStatus, depth, holding, arrives, arriveAll, fromLine, afterIir, writeIer, writeFcr}
-use Rattle.pc16550d.specs.Chip.{loads, transmits}
+use Rattle.pc16550d.specs.Chip.{Chip, Receiver, pin, modemStatus, depth, holding, arrives, arriveAll, fromLine, afterIir, writeIer}
+use Rattle.pc16550d.specs.Chip.{writeFcr, loads, transmits}
 use Rattle.pc16550d.specs.Chip.{writeMcr, changed, inputs, writeThr, rising, rises, Op, read, write, input, chipDoes}
 use Rattle.pc16550d.specs.Chip as chip
 use Rattle.pc16550d.specs.Compare.{Done, accessed, deviceDoes, chipOf, enables, Sound, Agrees, Row, reads, writes, serial-wide-mcr}
@@ -111,11 +111,13 @@ or-small a b h g =
 
 changed-small : (before after : ℕ) → changed before after < 0x10
 unfolding changed
-changed-small before after = go (on before 0x04 && not (on after 0x04)) (and-le-r (bitXor before after) 0x0b)
+changed-small before after = go _ _ refl refl (and-le-r (bitXor before after) 0x0b)
   where
-    go : (ended : Bool) → bitAnd (bitXor before after) 0x0b ≤ 0x0b → bitAnd (bitXor before after) 0x0b + cond ended 0x04 0 < 0x10
-    go true h = omega arith
-    go false h = omega arith
+    go : (x y : Bool) → on before 0x04 ≡ x → on after 0x04 ≡ y → bitAnd (bitXor before after) 0x0b ≤ 0x0b → changed before after < 0x10
+    go true true e f h = simp (e, f) (omega arith)
+    go true false e f h = simp (e, f) (omega arith)
+    go false true e f h = simp (e, f) (omega arith)
+    go false false e f h = simp (e, f) (omega arith)
 
 -- ---- Bytes that the receiver holds
 in-case : (a b : Bool) → a ≡ true → (not a || b) ≡ true → b ≡ true
@@ -160,7 +162,7 @@ module _ (p : Port) (f : Bool) (t m : ℕ) (small : m < 0x10) (quiet : modemStat
       → Goes c bits d o
   goes {bits} {d} {o} f′ t′ m′ e small′ quiet′ reply sent signal =
       let level : line (d .port) ≡ pin (o .chip) =
-          sym (ap pin e ∙ pin-tuned (d .port) f′ t′ m′ (sym (ap (λ (x : Chip). modemStatus x) e) ∙ quiet′)) in
+      sym (ap pin e ∙ pin-tuned (d .port) f′ t′ m′ (sym (ap (λ (x : Chip). modemStatus x) e) ∙ quiet′)) in
       record {
         alike = record {
           reply = reply;
@@ -223,7 +225,10 @@ module _ (p : Port) (f : Bool) (t m : ℕ) (small : m < 0x10) (quiet : modemStat
   agreed-goes : (r : Register) → ReadAgrees p r → ReadGoes r
   unfolding chipOf readRegister chip.readRegister afterIir
   agreed-goes MCR a = mcr-goes
-  agreed-goes RBR-THR a = by-agreement a m refl small quiet (fits-by (λ v. v) (accessed (readRegister p RBR-THR) .reply) (chip.readRegister (chipOf p) chip.RBR-THR .reply) (a .alike .reply)) refl
+  agreed-goes RBR-THR a =
+      let ours : Answer = accessed (readRegister p RBR-THR) .reply in
+      let theirs : Said = chip.readRegister (chipOf p) chip.RBR-THR .reply in
+      by-agreement a m refl small quiet (fits-by (λ v. v) ours theirs (a .alike .reply)) refl
   agreed-goes IER a = by-agreement a m refl small quiet refl refl
   agreed-goes LCR a = by-agreement a m refl small quiet refl refl
   agreed-goes LSR a = by-agreement a m refl small quiet (a .alike .reply) refl
@@ -249,8 +254,9 @@ module _ (p : Port) (f : Bool) (t m : ℕ) (small : m < 0x10) (quiet : modemStat
   fcr-goes : (v : ℕ) → Careful IIR-FCR v → (b : Bool) → on v 0x01 ≡ b → WriteGoes IIR-FCR v
   unfolding chipOf writeRegister chip.writeRegister writeFcr carefulWrite
   fcr-goes v e true b =
-      let waits : List ℕ → Chip = λ w. tuned true (chip.triggerLevel v) m (chip.withReceiver (chipOf p) (holding (chipOf p .receiver) w false)) in
-      goes true (chip.triggerLevel v) m (rw b (ap waits (none-emptied (on v 0x02 || not f) (p .waiting) (rw b at e)))) small quiet tt refl (calm (λ x. x))
+      let level = chip.triggerLevel v in
+      let waits : List ℕ → Chip = λ w. tuned true level m (chip.withReceiver (chipOf p) (holding (chipOf p .receiver) w false)) in
+      goes true level m (rw b (ap waits (none-emptied (on v 0x02 || not f) (p .waiting) (rw b at e)))) small quiet tt refl (calm (λ x. x))
   fcr-goes v e false b =
       let waits : List ℕ → Chip = λ w. tuned false t m (chip.withReceiver (chipOf p) (holding (chipOf p .receiver) w false)) in
       goes false t m (rw b (ap waits (none-emptied f (p .waiting) (rw b at e)))) small quiet tt refl (calm (λ x. x))
@@ -273,7 +279,8 @@ module _ (p : Port) (f : Bool) (t m : ℕ) (small : m < 0x10) (quiet : modemStat
   unfolding chipOf writeRegister chip.writeRegister writeIer carefulWrite ierStored
   ier-goes v e a =
       let ier = bitAnd v 0x0f in
-      let both = both-true (not (on ier 0x02) || (not (enables p transmitterEmpty) || active p transmitterEmpty)) (not (on ier 0x08) || eqb m 0) e in
+      let waits : Bool = not (enables p transmitterEmpty) || active p transmitterEmpty in
+      let both = both-true (not (on ier 0x02) || waits) (not (on ier 0x08) || eqb m 0) e in
       elim a [
         | inl a ↦ by-agreement a m refl small (none-signalled (eqb m 0) (on ier 0x08) (both .1)) tt refl
         | inr row ↦ absurd (not-row v (both .0) row)
@@ -314,8 +321,9 @@ module _ (p : Port) (f : Bool) (t m : ℕ) (small : m < 0x10) (quiet : modemStat
   thr-goes : Sound p → (v : ℕ) → Careful RBR-THR v → WriteGoes RBR-THR v
   unfolding writeRegister chip.writeRegister writeThr
   thr-goes k v e =
-      let few : inLoop p ≡ true → length (p .waiting) < 16 = λ l. (let room = loop-room v e l in let below = depth-below f in omega arith) in
-      goes f t m (thr-tuned v e _ refl ∙ ap (tuned f t m) (sym (thr-next p v k _ refl few))) small (thr-quiet v _ refl) tt (thr-sent v _ refl) (thr-signal v)
+      let few : inLoop p ≡ true → length (p .waiting) < 16 = λ l. omega (arith, loop-room v e l, depth-below f) in
+      goes f t m (thr-tuned v e _ refl ∙ ap (tuned f t m) (sym (thr-next p v k _ refl few))) small (thr-quiet v _ refl) tt
+      (thr-sent v _ refl) (thr-signal v)
 
   -- ---- All registers
   write-goes : Sound p → (r : Register) (v : ℕ) → Careful r v → WriteGoes r v
@@ -350,7 +358,8 @@ module _ (p : Port) (f : Bool) (t m : ℕ) (small : m < 0x10) (quiet : modemStat
 
   same-line : (bytes : List ℕ) → CarefulInput bytes → (l : Bool) → inLoop p ≡ l → SameLine bytes
   unfolding chipOf fromLine
-  same-line bytes e true l = record { next = rw (loop-kept, l); reply = rw (loop-kept, l); sent = rw (loop-kept, l); calmly = rw (loop-kept, l) quiet }
+  same-line bytes e true l =
+      record { next = rw (loop-kept, l); reply = rw (loop-kept, l); sent = rw (loop-kept, l); calmly = rw (loop-kept, l) quiet }
   same-line bytes e false l =
       let room = line-room bytes e l in
       let below = depth-below f in
@@ -383,7 +392,8 @@ module _ (p : Port) (f : Bool) (t m : ℕ) (small : m < 0x10) (quiet : modemStat
   one-goes k (input bytes) e = input-goes bytes e (input-complete p k bytes)
 
 -- ---- Runs
-goes-on : (p : Port) → Sound p → (c : Chip) → Follows p c → (o : Op) → careful c o ≡ true → Goes c (comparedAt c o) (deviceDoes p o) (chipDoes c o)
+goes-on : (p : Port) → Sound p → (c : Chip) → Follows p c → (o : Op) → careful c o ≡ true
+    → Goes c (comparedAt c o) (deviceDoes p o) (chipDoes c o)
 goes-on p k c w o =
     let f = c .receiver .fifos in
     let t = c .receiver .trigger in

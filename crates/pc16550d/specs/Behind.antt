@@ -43,7 +43,8 @@ holds c more = not (ltb (depth (c .receiver)) (length (c .receiver .waiting) + m
 unfoldable pub carefulWrite : Chip → Register → ℕ → Bool
 -- In the loop a byte is written only where the receiver holds it.
 carefulWrite c RBR-THR v = not (inLoop c) || holds c 1
--- IER 0x02 is not written again while it is 1 and nothing is pending; 0x08 is set only where MSR has been read since a modem input changed.
+-- IER 0x02 is not written as 1 again while it is 1 and its interrupt is not pending; 0x08 is written as 1 only where no modem input has
+-- changed since MSR was read.
 carefulWrite c IER v =
     let ier = bitAnd v 0x0f in
     (not (on ier 0x02) || (not (enabled c 0x02) || c .interrupts .thre)) && (not (on ier 0x08) || eqb (c .modem .changes) 0)
@@ -72,8 +73,8 @@ carefulRun c (o ∷ os) = careful c o && carefulRun (chipDoes c o .chip) os
 
 -- ---- What looks alike
 
--- The bits of an answer that are compared: of IIR all but the FIFOs' 0xc0 and the time-out's 0x08, of MCR the five that the chip has, of MSR
--- the inputs and not their changes; of every other register, and of what an input answers, all.
+-- The bits of an answer that are compared: of IIR all but the FIFOs' 0xc0 and the time-out's 0x08, of MCR the five that the chip has, of
+-- MSR the inputs and not their changes; of every other register, and of what an input answers, all.
 abbrev pub compared : Register → ℕ → ℕ
 compared RBR-THR v = v
 compared IER v = v
@@ -117,8 +118,8 @@ AlikeRun p c (o ∷ os) =
 
 -- ---- Linux
 
--- Its 8250 driver starts, as in lists/guests/linux-8250-start.list: it looks for a port, tries the loop and the FIFOs, empties them and turns
--- them off, sets the line up and tests the transmitter.
+-- Its 8250 driver starts, as in lists/guests/linux-8250-start.list: it looks for a port, tries the loop and the FIFOs, empties them and
+-- turns them off, sets the line up and tests the transmitter.
 abbrev pub linuxStarts : List Op
 linuxStarts =
     write 1 0x00 ∷ read 1 ∷ write 1 0x0f ∷ read 1 ∷ write 1 0x00
@@ -126,7 +127,8 @@ linuxStarts =
     ∷ write 2 0x01 ∷ read 2 ∷ write 2 0x01 ∷ write 2 0x07 ∷ write 2 0x00
     ∷ read 5 ∷ read 0 ∷ read 2 ∷ read 6 ∷ write 3 0x03 ∷ write 4 0x0b ∷ write 1 0x02 ∷ read 2 ∷ read 2 ∷ write 1 0x00 ∷ []
 
--- The port is opened: the divisor, eight bits, FIFOs at trigger level 8; received data and line status are enabled.
+-- The port is opened: the divisor, eight bits, FIFOs at trigger level 8; received data and line status are enabled. (This and how it sends
+-- are from memory, not from a list.)
 abbrev pub linuxOpens : List Op
 linuxOpens = write 3 0x83 ∷ write 0 0x01 ∷ write 1 0x00 ∷ write 3 0x03 ∷ write 2 0x01 ∷ write 2 0x81 ∷ write 4 0x0b ∷ write 1 0x05 ∷ []
 
