@@ -425,6 +425,30 @@ pub follows-first : (p : Port) → Follows p (chipOf p)
 unfolding chipOf
 follows-first p = record { same = refl; four = lit< tt; quiet = refl }
 
+-- ---- What is asked of the driver is needed
+
+-- From the fresh device, a run that does not look alike.
+abbrev Differs : List Op → Type 0
+Differs os = AlikeRun begins (chipOf begins) os → ⊥
+
+-- In this order: two bytes over the line and in the loop while the FIFOs are off, FCR with a byte waiting, IER 0x02 again, IER 0x08 after and
+-- before a change at a modem input.
+pub each-needed : Differs (write 2 0x00 ∷ input (0x41 ∷ 0x42 ∷ []) ∷ read 0 ∷ [])
+    × Differs (write 2 0x00 ∷ write 4 0x1b ∷ write 0 0x41 ∷ write 0 0x42 ∷ read 5 ∷ [])
+    × Differs (input (0x41 ∷ []) ∷ write 2 0x03 ∷ read 5 ∷ [])
+    × Differs (write 1 0x02 ∷ read 2 ∷ write 1 0x02 ∷ [])
+    × Differs (write 4 0x1a ∷ write 1 0x08 ∷ [])
+    × Differs (write 1 0x08 ∷ write 4 0x1a ∷ [])
+unfolding computing
+each-needed = (
+  λ r. (let z : _≡_ {A = ℕ} 0x41 0x42 = r .1 .1 .0 .reply in omega arith),
+  λ r. (let z : _≡_ {A = ℕ} 0x61 0x63 = r .1 .1 .1 .1 .0 .reply in omega arith),
+  λ r. (let z : _≡_ {A = ℕ} 0x61 0x60 = r .1 .1 .0 .reply in omega arith),
+  λ r. true≢false (r .1 .1 .0 .level),
+  λ r. false≢true (r .1 .0 .level),
+  λ r. false≢true (r .1 .0 .level),
+)
+
 -- ---- Linux, from the fresh device
 begins-sound : Sound begins
 begins-sound = fresh-sound 64 (lit≤ tt)
