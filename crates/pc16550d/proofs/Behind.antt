@@ -228,10 +228,10 @@ module _ (p : Port) (f : Bool) (t m : ℕ) (small : m < 0x10) (quiet : modemStat
   agreed-goes RBR-THR a =
       let ours : Answer = accessed (readRegister p RBR-THR) .reply in
       let theirs : Said = chip.readRegister (chipOf p) chip.RBR-THR .reply in
-      by-agreement a m refl small quiet (fits-by (λ v. v) ours theirs (a .alike .reply)) refl
+      by-agreement a m refl small quiet (fits-by (compared chip.RBR-THR) ours theirs (a .alike .reply)) refl
   agreed-goes IER a = by-agreement a m refl small quiet refl refl
   agreed-goes LCR a = by-agreement a m refl small quiet refl refl
-  agreed-goes LSR a = by-agreement a m refl small quiet (a .alike .reply) refl
+  agreed-goes LSR a = by-agreement a m refl small quiet (ap (compared chip.LSR) (a .alike .reply)) refl
   agreed-goes SCR a = by-agreement a m refl small quiet refl refl
   agreed-goes DLL a = by-agreement a m refl small quiet refl refl
   agreed-goes DLM a = by-agreement a m refl small quiet refl refl
