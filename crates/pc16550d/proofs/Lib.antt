@@ -1,5 +1,5 @@
 -- In the order of the proof: calls one register at a time, all calls, runs; then what is computed: each row shown, the chip by itself,
--- useful runs.
+-- useful runs; last, what holds behind a first row.
 pub mod Agreement
 pub mod Reading
 pub mod Receiving
@@ -16,3 +16,4 @@ pub mod Witness
 pub mod Pinned
 pub mod RunTest
 pub mod Useful
+pub mod Behind

@@ -35,15 +35,15 @@ empties-raises : (p : Port) → device.transmits p .raises ≡ newly (active p t
 empties-raises p = rw (empties p, newly-same (active p receivedData)) (zero-add _)
 
 -- Received data is active after a write of THR: it was, or the byte comes by the loop and it is enabled.
-abbrev dataAfter : Port → Bool
+abbrev pub dataAfter : Port → Bool
 dataAfter p = cond (inLoop p && hasRoom p) (enables p receivedData) (active p receivedData)
 
 -- q: the port after the write.
-record Written (p q : Port) (raises : ℕ) : Type 0 where
-  level : line q ≡ (dataAfter p || enables p transmitterEmpty)
-  raised : raises ≡ newly (active p transmitterEmpty) (enables p transmitterEmpty) + newly (active p receivedData) (dataAfter p)
+pub record Written (p q : Port) (raises : ℕ) : Type 0 where
+  pub level : line q ≡ (dataAfter p || enables p transmitterEmpty)
+  pub raised : raises ≡ newly (active p transmitterEmpty) (enables p transmitterEmpty) + newly (active p receivedData) (dataAfter p)
 
-written : (p : Port) (v : ℕ) (l room : Bool) → inLoop p ≡ l → hasRoom p ≡ room
+pub written : (p : Port) (v : ℕ) (l room : Bool) → inLoop p ≡ l → hasRoom p ≡ room
     → Written p (device.writeThr p v .port) (device.writeThr p v .raises)
 unfolding writeLine writeLoop isHigh
 written p v false room l h =
@@ -92,7 +92,7 @@ thr-next p v k true l h =
     rw (loop-kept, l, lt-ltb (length (p .waiting)) 16 few, lt-ltb (length (p .waiting)) (p .size) (omega arith))
     (received (emptied p) v [] .next ∙ ap comes (same-left p))
 
-same-sent : (p : Port) (v : ℕ) (l : Bool) → inLoop p ≡ l → device.writeThr p v .sent ≡ writeThr (chipOf p) v .sent
+pub same-sent : (p : Port) (v : ℕ) (l : Bool) → inLoop p ≡ l → device.writeThr p v .sent ≡ writeThr (chipOf p) v .sent
 unfolding chipOf writeLine writeLoop writeThr
 same-sent p v true l = rw (loop-kept, l)
 same-sent p v false l = rw (loop-kept, l)
