@@ -1,11 +1,13 @@
 -- The chip by itself, from a master reset: runs with the answers that the data sheet's rules give. Inside a row nothing else holds the
 -- definition to the sheet.
 use mathlib.Core.Path.{_≡_, refl}
-use mathlib.Core.Bool.{true, false}
+use mathlib.Core.Bool.{true, false, cond}
 use mathlib.Core.List.{List, [], _∷_, _++_}
-use Prim.Native.Nat.{ℕ}
+use Prim.Native.Nat.{ℕ, _<_}
+use lib.Dec.{leb}
+use Rattle.common.proofs.EveryByte.{same}
 use Rattle.sidebyside.specs.Runs.{Step, does, tells, hushes, Told, chipAfter}
-use Rattle.pc16550d.specs.Chip.{Chip, Op, read, write, input, masterReset}
+use Rattle.pc16550d.specs.Chip.{Chip, Op, read, write, input, masterReset, triggerLevel}
 use Rattle.pc16550d.specs.Compare.{pair}
 use Rattle.pc16550d.specs.Runs.{sends, pinOf, risesOf}
 use Rattle.pc16550d.proofs.Computing.{computing}
@@ -34,6 +36,11 @@ seventeen = thirteen ++ four
 
 abbrev twelveReads : List Op
 twelveReads = read 0 ∷ read 0 ∷ read 0 ∷ read 0 ∷ read 0 ∷ read 0 ∷ read 0 ∷ read 0 ∷ read 0 ∷ read 0 ∷ read 0 ∷ read 0 ∷ []
+
+-- The trigger level goes by the two high bits of FCR and by no other.
+pub trigger-levels : (v : ℕ) → v < 256 → triggerLevel v ≡ cond (leb 0xc0 v) 14 (cond (leb 0x80 v) 8 (cond (leb 0x40 v) 4 1))
+unfolding triggerLevel
+trigger-levels = same triggerLevel (λ v. cond (leb 0xc0 v) 14 (cond (leb 0x80 v) 8 (cond (leb 0x40 v) 4 1))) tt
 
 module _ (c : Chip) where
   abbrev reset : Chip
