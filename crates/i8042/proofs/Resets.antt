@@ -1,6 +1,7 @@
 -- Which writes reset the machine, and for which commands the manual answers otherwise.
 use mathlib.Core.Path.{_≡_, refl}
 use mathlib.Core.Bool.{Bool, true, false, _&&_, _||_, false≢true}
+use mathlib.Core.List.{List, [], _∷_}
 use Prim.Native.Nat.{ℕ, _<_}
 use lib.Dec.{eqb}
 use borrow.Author.Tests.{eq-eqb, ne-eqb, eqb-true}
@@ -42,3 +43,18 @@ manual-is = same-test manualResets (λ v. deviceResets v || otherPulse v) tt
 pub never-both : (v : ℕ) → v < 256 → (deviceResets v && otherPulse v) ≡ false
 unfolding deviceResets
 never-both = same-test (λ v. deviceResets v && otherPulse v) (λ v. false) tt
+
+-- The commands by their numbers. Of the 256 the manual resets on these eight, and seven of them are the row's.
+abbrev pub listed : List ℕ → ℕ → Bool
+listed [] v = false
+listed (command ∷ commands) v = eqb v command || listed commands v
+
+abbrev pub row : List ℕ
+row = 0xf0 ∷ 0xf2 ∷ 0xf4 ∷ 0xf6 ∷ 0xf8 ∷ 0xfa ∷ 0xfc ∷ []
+
+pub manual-numbers : (v : ℕ) → v < 256 → manualResets v ≡ listed (0xfe ∷ row) v
+unfolding manualResets
+manual-numbers = same-test manualResets (listed (0xfe ∷ row)) tt
+
+pub row-numbers : (v : ℕ) → v < 256 → otherPulse v ≡ listed row v
+row-numbers = same-test otherPulse (listed row) tt

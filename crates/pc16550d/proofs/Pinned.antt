@@ -1,11 +1,13 @@
 -- The chip by itself, from a master reset: runs with the answers that the data sheet's rules give. Inside a row nothing else holds the
 -- definition to the sheet.
 use mathlib.Core.Path.{_≡_, refl}
-use mathlib.Core.Bool.{true, false}
+use mathlib.Core.Bool.{true, false, cond}
 use mathlib.Core.List.{List, [], _∷_, _++_}
-use Prim.Native.Nat.{ℕ}
+use Prim.Native.Nat.{ℕ, _<_}
+use lib.Dec.{leb}
+use Rattle.common.proofs.EveryByte.{same}
 use Rattle.sidebyside.specs.Runs.{Step, does, tells, hushes, Told, chipAfter}
-use Rattle.pc16550d.specs.Chip.{Chip, Op, read, write, input, masterReset}
+use Rattle.pc16550d.specs.Chip.{Chip, Op, read, write, input, masterReset, triggerLevel}
 use Rattle.pc16550d.specs.Compare.{pair}
 use Rattle.pc16550d.specs.Runs.{sends, pinOf, risesOf}
 use Rattle.pc16550d.proofs.Computing.{computing}
@@ -34,6 +36,11 @@ seventeen = thirteen ++ four
 
 abbrev twelveReads : List Op
 twelveReads = read 0 ∷ read 0 ∷ read 0 ∷ read 0 ∷ read 0 ∷ read 0 ∷ read 0 ∷ read 0 ∷ read 0 ∷ read 0 ∷ read 0 ∷ read 0 ∷ []
+
+-- The trigger level goes by the two high bits of FCR and by no other.
+pub trigger-levels : (v : ℕ) → v < 256 → triggerLevel v ≡ cond (leb 0xc0 v) 14 (cond (leb 0x80 v) 8 (cond (leb 0x40 v) 4 1))
+unfolding triggerLevel
+trigger-levels = same triggerLevel (λ v. cond (leb 0xc0 v) 14 (cond (leb 0x80 v) 8 (cond (leb 0x40 v) 4 1))) tt
 
 module _ (c : Chip) where
   abbrev reset : Chip
@@ -93,6 +100,25 @@ module _ (c : Chip) where
       ≡ false ∷ true ∷ false ∷ true ∷ false ∷ true ∷ false ∷ true ∷ []
   unfolding computing
   each-signalled = refl
+
+  -- Each kind by its own bit of IER and by no other. One of them is pending at a time: the line status, where the byte that was not lost has
+  -- been read; received data; the modem status. The transmitter's comes with its bit.
+  pub line-status-by-04 : Told pair reset (i (1 ∷ 2 ∷ []) 2 ∷ r 0 2 ∷ w 1 0x09 ∷ r 2 0x01 ∷ w 1 0x04 ∷ r 2 0x06 ∷ w 1 0x02 ∷ r 2 0x02 ∷ r 2 0x01 ∷ [])
+  unfolding computing
+  line-status-by-04 = refl
+
+  pub received-data-by-01 : Told pair reset (i (1 ∷ []) 1 ∷ w 1 0x0c ∷ r 2 0x01 ∷ w 1 0x01 ∷ r 2 0x04 ∷ w 1 0x02 ∷ r 2 0x02 ∷ r 2 0x01 ∷ [])
+  unfolding computing
+  received-data-by-01 = refl
+
+  pub transmitter-by-02 : Told pair reset (w 1 0x0d ∷ r 2 0x01 ∷ w 1 0x02 ∷ r 2 0x02 ∷ [])
+  unfolding computing
+  transmitter-by-02 = refl
+
+  pub modem-status-by-08 : Told pair (chipAfter pair reset (write 4 0x10 ∷ read 6 ∷ write 4 0x12 ∷ []))
+      (w 1 0x05 ∷ r 2 0x01 ∷ w 1 0x08 ∷ r 2 0x00 ∷ w 1 0x02 ∷ r 2 0x02 ∷ r 2 0x01 ∷ [])
+  unfolding computing
+  modem-status-by-08 = refl
 
   -- The transmitter signals when it is enabled. Reading IIR resets that; to enable it while it is enabled changes nothing; writing THR and
   -- enabling it anew signal again. Without the FIFOs IIR's high bits are 0.
@@ -166,6 +192,21 @@ module _ (c : Chip) where
   unfolding computing
   fifo-control = refl
 
+  -- A reading of what the data sheet leaves open: emptying the FIFO, turning the FIFOs off or on, and reading RBR leave the overrun until LSR
+  -- is read.
+  pub emptied-keeps-overrun : Told pair (chipAfter pair reset (write 2 0x01 ∷ input seventeen ∷ [])) (w 2 0x03 ∷ r 5 0x62 ∷ r 5 0x60 ∷ [])
+  unfolding computing
+  emptied-keeps-overrun = refl
+
+  pub turned-keeps-overrun : Told pair (chipAfter pair reset (write 2 0x01 ∷ input seventeen ∷ [])) (w 2 0x00 ∷ w 2 0x01 ∷ w 2 0x00 ∷ r 5 0x62 ∷ r 5 0x60 ∷ [])
+  unfolding computing
+  turned-keeps-overrun = refl
+
+  -- A reading too: neither emptying the transmit FIFO nor turning the FIFOs on or off signals the empty transmitter anew.
+  pub fcr-signals-nothing : Told pair reset (w 1 0x02 ∷ r 2 0x02 ∷ w 2 0x01 ∷ r 2 0xc1 ∷ w 2 0x05 ∷ r 2 0xc1 ∷ w 2 0x07 ∷ r 2 0xc1 ∷ w 2 0x00 ∷ r 2 0x01 ∷ [])
+  unfolding computing
+  fcr-signals-nothing = refl
+
   -- ---- The modem and the loop
 
   -- What is written comes back, the line is cut off, and received data and the transmitter still interrupt.
@@ -181,6 +222,12 @@ module _ (c : Chip) where
       ∷ w 4 0x10 ∷ r 6 0x0b ∷ r 6 0x00 ∷ w 4 0x12 ∷ w 4 0x10 ∷ r 6 0x01 ∷ [])
   unfolding computing
   loop-lines = refl
+
+  -- RI's end is 0x04 and its beginning nothing, with the other lines on and with them off.
+  pub ring-ends : Told pair (chipAfter pair reset (write 4 0x10 ∷ read 6 ∷ []))
+      (w 4 0x14 ∷ r 6 0x40 ∷ w 4 0x10 ∷ r 6 0x04 ∷ r 6 0x00 ∷ w 4 0x1b ∷ r 6 0xbb ∷ w 4 0x1f ∷ r 6 0xf0 ∷ w 4 0x1b ∷ r 6 0xb4 ∷ r 6 0xb0 ∷ [])
+  unfolding computing
+  ring-ends = refl
 
   -- Outside of the loop they are the pins, here CTS, DSR and DCD; going into the loop and out of it are changes.
   pub pins-and-loop : c .modem .pins ≡ 0x0b

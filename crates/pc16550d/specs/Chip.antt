@@ -1,10 +1,12 @@
--- The PC16550D as its data sheet has it: its registers, its interrupt pin, what each access does. Nothing here is taken from the device.
+-- The PC16550D by its data sheet: its registers, its interrupt pin, what each access does. Nothing here is taken from the device. The data
+-- sheet was not at hand: its facts were collected from memory and held against drivers and QEMU's 16550 (docs/MANUALS.md).
 --
 -- Left out:
 -- * Time. What is written to THR has left when the write ends, so LSR 0x20 and 0x40 are 1 and the transmit FIFO is empty (FCR 0x04 has
 --   nothing to do). Between two operations four character times pass, after which the receiver's time-out has come.
 -- * The form of a character: word length, stop bits, parity, break (LCR 0x7f), their errors (LSR 0x04, 0x08, 0x10, 0x80), the speed.
--- * All pins but the interrupt's. The modem's four input pins stand still; its outputs and DMA (FCR 0x08) reach nobody; OUT2 gates nothing.
+-- * All pins but the interrupt's: docs/DIFFERENCES.md, "serial-other-pins". The modem's four input pins stand still; its outputs and DMA
+--   (FCR 0x08) reach nobody; OUT2 gates nothing.
 use Prim.Native.Nat.{ℕ, _+_, _*_, _/_, _%_}
 use mathlib.Core.List.{List, [], _∷_, _++_, tail}
 use mathlib.Core.Bool.{Bool, true, false, cond, not, _&&_, _||_}
@@ -172,7 +174,8 @@ arriveAll r (byte ∷ bytes) = arriveAll (arrives r byte) bytes
 unfoldable pub triggerLevel : ℕ → ℕ
 triggerLevel v = getD (1 ∷ 4 ∷ 8 ∷ 14 ∷ []) (v / 0x40 % 4) 1
 
--- FCR: 0x01 turns the FIFOs on, and where it is 0 no other bit counts; 0x02 empties the receiver's, and so does turning them on or off.
+-- FCR: 0x01 turns the FIFOs on, and where it is 0 no other bit counts; 0x02 empties the receiver's, and so does turning them on or off. Two
+-- readings, docs/DECISIONS.md: the overrun stays until LSR is read; no write here signals the empty transmitter anew (in QEMU some do).
 unfoldable pub writeFcr : Receiver → ℕ → Receiver
 writeFcr r v =
     cond (on v 0x01)

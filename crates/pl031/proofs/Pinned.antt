@@ -38,6 +38,11 @@ pub started-once : Told pair afterReset
 unfolding computing
 started-once = refl
 
+-- Bit 0 alone starts it.
+pub started-by-bit-0 : Told pair afterReset (w 0x00c 0xffff_fffe ∷ s ∷ r 0x000 0 ∷ r 0x00c 0 ∷ w 0x00c 0xffff_ffff ∷ s ∷ r 0x000 1 ∷ r 0x00c 1 ∷ [])
+unfolding computing
+started-by-bit-0 = refl
+
 -- LR sets the counter, standing or running, and starts nothing; it reads as it was written; a value is 32 bits.
 pub load : Told pair afterReset
     (w 0x008 101 ∷ s ∷ r 0x000 101 ∷ w 0x00c 1 ∷ s ∷ r 0x000 102 ∷ w 0x008 0x1_0000_0007 ∷ r 0x000 7 ∷ s ∷ r 0x000 8 ∷ r 0x008 7 ∷ [])
@@ -56,10 +61,17 @@ pub match-held : Told pair afterReset
 unfolding computing
 match-held = refl
 
+-- A reading of what the manual leaves open: to write MR with the counter's value is no match, whether the clock stands or runs. Nor does the
+-- next second make it one.
+pub no-match-by-writing : Told pair afterReset
+    (w 0x008 7 ∷ w 0x004 7 ∷ r 0x014 0 ∷ w 0x00c 1 ∷ s ∷ r 0x000 8 ∷ r 0x014 0 ∷ w 0x004 8 ∷ r 0x004 8 ∷ r 0x014 0 ∷ s ∷ r 0x014 0 ∷ [])
+unfolding computing
+no-match-by-writing = refl
+
 -- Loading the match value sets it; the mask lets it through, and has one bit; ICR clears it by its bit 0 alone; DR, RIS and MIS cannot be
 -- written.
 pub masked : Told pair afterReset
-    (w 0x004 5 ∷ w 0x008 5 ∷ r 0x014 1 ∷ r 0x018 0 ∷ w 0x010 0xff ∷ r 0x010 1 ∷ r 0x018 1 ∷ w 0x01c 2 ∷ r 0x018 1 ∷ w 0x014 0 ∷ w 0x018 0 ∷ r 0x018 1
-    ∷ w 0x010 2 ∷ r 0x018 0 ∷ r 0x014 1 ∷ w 0x01c 3 ∷ r 0x014 0 ∷ w 0x000 6 ∷ r 0x000 5 ∷ [])
+    (w 0x004 5 ∷ w 0x008 5 ∷ r 0x014 1 ∷ r 0x018 0 ∷ w 0x010 0xff ∷ r 0x010 1 ∷ r 0x018 1 ∷ w 0x01c 0xffff_fffe ∷ r 0x018 1 ∷ w 0x014 0 ∷ w 0x018 0 ∷ r 0x018 1
+    ∷ w 0x010 0xffff_fffe ∷ r 0x018 0 ∷ r 0x014 1 ∷ w 0x01c 3 ∷ r 0x014 0 ∷ w 0x000 6 ∷ r 0x000 5 ∷ [])
 unfolding computing
 masked = refl

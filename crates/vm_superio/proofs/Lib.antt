@@ -12,5 +12,6 @@ pub mod Exact
 pub mod Runs
 pub mod Computing
 pub mod Shown
+pub mod Pinned
 pub mod Reached
 pub mod Restored
