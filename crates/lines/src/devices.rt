@@ -7,6 +7,11 @@ use words::pattern::fits;
 use words::put::put;
 use words::put::unknown;
 ghost use Prim.Native.Nat.{_+_, _≤_};
+ghost use mathlib.Core.Path.{_≡_};
+ghost use mathlib.Core.Bool.{true, false};
+ghost use Rattle.lines.specs.Handing.{namedBy, whoseLine, namedTask, taskOf, plainSays};
+ghost use Rattle.lines.specs.Handing.{BeginsClock, AnswersClock, BeginsSerial, AnswersSerial};
+ghost use Rattle.words.specs.Put.{Puts};
 
 pub enum Device {
     Nothing,
@@ -41,7 +46,9 @@ pub struct Task {
     pub device: Device,
 }
 
-pub fn task_of(line: &[u8], kind: Kind, device: Device) -> Task {
+pub fn task_of(line: &[u8], kind: Kind, device: Device) -> Task
+    ensures { λ r. ⌜ r ≡ taskOf (now (line .entry)) kind device ⌝ }
+{
     match kind {
         Kind::Silent => Task {
             whose: Whose::Nobodys,
@@ -53,26 +60,42 @@ pub fn task_of(line: &[u8], kind: Kind, device: Device) -> Task {
             fresh: false,
             device,
         },
-        Kind::Whole => {
-            let named = named(line);
-            match named {
-                Device::Nothing => Task {
-                    whose: line_of(device),
-                    fresh: false,
-                    device,
-                },
-                _ => Task {
-                    whose: line_of(named),
-                    fresh: true,
-                    device: named,
-                },
-            }
-        }
+        Kind::Whole => whole_task(named(line), device),
+    }
+}
+
+// Of a line that names a device, or none.
+fn whole_task(named: Device, device: Device) -> Task
+    ensures { λ r. ⌜ r ≡ namedTask named device ⌝ }
+{
+    match named {
+        Device::Nothing => Task {
+            whose: line_of(device),
+            fresh: false,
+            device,
+        },
+        Device::Reset => Task {
+            whose: Whose::Resets,
+            fresh: true,
+            device: Device::Reset,
+        },
+        Device::Clock => Task {
+            whose: Whose::Clocks,
+            fresh: true,
+            device: Device::Clock,
+        },
+        Device::Serial => Task {
+            whose: Whose::Ports,
+            fresh: true,
+            device: Device::Serial,
+        },
     }
 }
 
 // The device that a line names.
-fn named(line: &[u8]) -> Device {
+fn named(line: &[u8]) -> Device
+    ensures { λ r. ⌜ r ≡ namedBy (now (line .entry)) ⌝ }
+{
     if fits(line, b"i8042") {
         return Device::Reset;
     }
@@ -85,7 +108,9 @@ fn named(line: &[u8]) -> Device {
     Device::Nothing
 }
 
-fn line_of(device: Device) -> Whose {
+fn line_of(device: Device) -> Whose
+    ensures { λ r. ⌜ r ≡ whoseLine device ⌝ }
+{
     match device {
         Device::Nothing => Whose::Unknown,
         Device::Reset => Whose::Resets,
@@ -97,6 +122,7 @@ fn line_of(device: Device) -> Whose {
 // Answers a line that no device with a state answers, from `at` on.
 pub fn plain(line: &[u8], whose: Whose, fresh: bool, out: &mut Block, at: usize) -> usize
     requires { ⌜ at + 4096 ≤ 65536 ⌝ }
+    ensures { λ r. ⌜ Puts (now (out .entry)) at (plainSays (now (line .entry)) whose fresh) (now (out .exit)) r ⌝ }
     ensures { λ r. ⌜ r ≤ at + 4096 ⌝ }
 {
     match whose {
@@ -107,7 +133,9 @@ pub fn plain(line: &[u8], whose: Whose, fresh: bool, out: &mut Block, at: usize)
             }
             reset_lines::answer(line, out, at)
         }
-        _ => unknown(out, at),
+        Whose::Unknown => unknown(out, at),
+        Whose::Clocks => unknown(out, at),
+        Whose::Ports => unknown(out, at),
     }
 }
 
@@ -120,6 +148,8 @@ pub fn clock(
 ) -> clock_lines::Said
     requires { ⌜ at + 4096 ≤ 65536 ⌝ }
     ensures { λ r. ⌜ r .put ≤ at + 4096 ⌝ }
+    ensures { λ r. ⌜ (fresh ≡ true → BeginsClock clocks (now (out .entry)) at r (now (out .exit))) ⌝ }
+    ensures { λ r. ⌜ (fresh ≡ false → AnswersClock (now (line .entry)) clocks (now (out .entry)) at r (now (out .exit))) ⌝ }
 {
     if fresh {
         let clocks = clock_lines::begin(clocks);
@@ -138,6 +168,8 @@ pub fn serial(
 ) -> serial_lines::Said
     requires { ⌜ at + 4096 ≤ 65536 ⌝ }
     ensures { λ r. ⌜ r .put ≤ at + 4096 ⌝ }
+    ensures { λ r. ⌜ (fresh ≡ true → BeginsSerial ports (now (out .entry)) at r (now (out .exit))) ⌝ }
+    ensures { λ r. ⌜ (fresh ≡ false → AnswersSerial (now (line .entry)) ports (now (out .entry)) at r (now (out .exit))) ⌝ }
 {
     if fresh {
         let ports = serial_lines::begin(ports);

@@ -1,6 +1,8 @@
 // The next line of what is held.
 ghost use Prim.Native.Nat.{_+_, _≤_, _<_};
 ghost use lib.ListN.{length};
+ghost use mathlib.Core.Path.{_≡_};
+ghost use Rattle.pieces.specs.Cutting.{cutOf, kindOf};
 ghost use Rattle.pieces.specs.Pieces.{Cuts};
 
 // A line of more characters is answered `?` and not looked at.
@@ -33,6 +35,7 @@ pub fn next_line(all: &[u8], from: usize, seen: usize, end: usize, passes: bool)
     requires { ⌜ seen < end ⌝ }
     requires { ⌜ end ≤ length (now all) ⌝ }
     ensures { λ r. ⌜ Cuts from seen end r ⌝ }
+    ensures { λ r. ⌜ r ≡ cutOf (now (all .entry)) from seen end passes ⌝ }
 {
     let stop = bytes::scan::find(all, seen, end, b'\n');
     if stop < end {
@@ -63,7 +66,9 @@ pub fn next_line(all: &[u8], from: usize, seen: usize, end: usize, passes: bool)
 }
 
 // `passes` says that `line` is the rest of one that was too long.
-fn kind_of(line: &[u8], passes: bool) -> Kind {
+fn kind_of(line: &[u8], passes: bool) -> Kind
+    ensures { λ r. ⌜ r ≡ kindOf (now (line .entry)) passes ⌝ }
+{
     if passes {
         return Kind::Silent;
     }

@@ -46,7 +46,7 @@ loop-less : tie.Need-loop-less Inv-loop μ-loop
 loop-less c = search needs
 
 loop-again : tie.Need-loop-again Inv-loop μ-loop
-loop-again c = goes-on (c .before .before .before .before .before .before .before .before .before .before .before .loop .inv) (c .before .before .before .before .before .before .before .next-line .ensures) (omega (arith, c .before .clock .ensures, c .before .before .before .before .before .before .before .before .if2 .left))
+loop-again c = goes-on (c .before .before .before .before .before .before .before .before .before .before .before .loop .inv) (c .before .before .before .before .before .before .before .next-line .ensures .0) (omega (arith, c .before .clock .ensures .0, c .before .before .before .before .before .before .before .before .if2 .left))
 
 enum-told-2 : tie.Need-enum-told-2 Inv-loop μ-loop
 enum-told-2 c = search needs
@@ -58,7 +58,7 @@ loop-less-2 : tie.Need-loop-less-2 Inv-loop μ-loop
 loop-less-2 c = search needs
 
 loop-again-2 : tie.Need-loop-again-2 Inv-loop μ-loop
-loop-again-2 c = goes-on (c .before .before .before .before .before .before .before .before .before .before .before .loop .inv) (c .before .before .before .before .before .before .before .next-line .ensures) (omega (arith, c .before .serial .ensures, c .before .before .before .before .before .before .before .before .if2 .left))
+loop-again-2 c = goes-on (c .before .before .before .before .before .before .before .before .before .before .before .loop .inv) (c .before .before .before .before .before .before .before .next-line .ensures .0) (omega (arith, c .before .serial .ensures .0, c .before .before .before .before .before .before .before .before .if2 .left))
 
 plain-requires : tie.Need-plain-requires Inv-loop μ-loop
 plain-requires c κs = search needs
@@ -67,7 +67,7 @@ loop-less-3 : tie.Need-loop-less-3 Inv-loop μ-loop
 loop-less-3 c = search needs
 
 loop-again-3 : tie.Need-loop-again-3 Inv-loop μ-loop
-loop-again-3 c = goes-on (c .before .before .before .before .before .before .before .before .before .loop .inv) (c .before .before .before .before .before .next-line .ensures) (omega (arith, c .plain .ensures, c .before .before .before .before .before .before .if2 .left))
+loop-again-3 c = goes-on (c .before .before .before .before .before .before .before .before .before .loop .inv) (c .before .before .before .before .before .next-line .ensures .0) (omega (arith, c .plain .ensures .1, c .before .before .before .before .before .before .if2 .left))
 
 returns-2 : tie.Need-returns-2 Inv-loop μ-loop
 returns-2 c = search needs

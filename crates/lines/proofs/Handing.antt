@@ -1,0 +1,38 @@
+-- To whom a line goes, one law for each place where the code tells it.
+use Prim.Native.Nat.{ℕ, _+_}
+use mathlib.Core.Path.{_≡_, refl, sym}
+use mathlib.Core.Bool.{Bool, true, false}
+use mathlib.Core.List.{List, [], append-nil}
+use native.Mathlib.Omega.{arith}
+use Rattle.words.specs.Put.{Puts}
+use Rattle.words.specs.Pattern.{fitsOf}
+use Rattle.words.specs.Text.{text}
+use Rattle.lines.specs.Handing.{namedBy, plainSays}
+use Rattle.lines.specs.declared.devices.Whose.{Whose}
+use Rattle.lines.specs.declared.devices.Device.the-variants.{Nothing, Reset, Clock, Serial}
+
+pub is-reset : (line : List ℕ) → fitsOf (text "i8042") line ≡ true → Reset ≡ namedBy line
+unfolding namedBy
+is-reset line f = rw f refl
+
+module _ (line : List ℕ) (no-reset : fitsOf (text "i8042") line ≡ false) where
+  pub is-clock : fitsOf (text "clock") line ≡ true → Clock ≡ namedBy line
+  unfolding namedBy
+  is-clock f = rw (no-reset, f) refl
+
+  module _ (no-clock : fitsOf (text "clock") line ≡ false) where
+    pub is-serial : fitsOf (text "serial") line ≡ true → Serial ≡ namedBy line
+    unfolding namedBy
+    is-serial f = rw (no-reset, no-clock, f) refl
+
+    pub is-none : fitsOf (text "serial") line ≡ false → Nothing ≡ namedBy line
+    unfolding namedBy
+    is-none f = rw (no-reset, no-clock, f) refl
+
+pub nothing-said : (out : List ℕ) (at : ℕ) → Puts out at [] out at
+nothing-said out at = record { next = omega arith; bytes = sym (append-nil _) }
+
+-- What is said goes by whose line it is.
+pub said-by : (line : List ℕ) {whose w : Whose} {fresh f : Bool} {out out′ : List ℕ} {at r : ℕ} → whose ≡ w → fresh ≡ f → Puts out at (plainSays line w f) out′ r
+    → Puts out at (plainSays line whose fresh) out′ r
+said-by line e f p = rw (e, f) p
