@@ -216,7 +216,7 @@ def axioms_status(said, trusted="`libc::read`"):
         for name in ["docs", "tests", "target/log"]:
             os.makedirs(os.path.join(folder, name))
         shutil.copy(os.path.join(ROOT, "tests/axioms"), os.path.join(folder, "tests"))
-        files = {"crates.txt": "one:\n", "docs/TRUSTED.md": trusted, "target/log/one.out": said}
+        files = {"crates.txt": "one:\n", "docs/TRUSTED.md": trusted, "target/log/one.say": said}
         for name, text in files.items():
             if text:
                 with open(os.path.join(folder, name), "w", encoding="utf-8") as file:
