@@ -1,6 +1,6 @@
 -- Writing and reading are inverse. That nothing past the end is read needs no theorem: no index is out of range in code that is proved.
 use mathlib.Core.Path.{_≡_, refl, sym, ap, _∙_}
-use mathlib.Core.Bool.{Bool, true, false, cond, _&&_, false≢true}
+use mathlib.Core.Bool.{Bool, true, false, cond}
 use mathlib.Core.List.{List, [], _∷_, _++_}
 use Prim.Native.Nat.{ℕ, zero, suc, _+_, _^_, _≤_, _<_}
 use native.Mathlib.Omega.{arith}
@@ -8,6 +8,7 @@ use lib.Dec.{lit<}
 use lib.ListN.{length, getD, take, drop, length-drop, take-append-drop, drop-of-length-le}
 use lib.Seq.{drop-drop, length-take-le, take-at}
 use borrow.Author.Tests.{le-leb}
+use Rattle.common.proofs.Booleans.{both-true}
 use Rattle.common.specs.Bytes.{bytesOf, valueOf, Bytes}
 use Rattle.common.specs.Forms.{offset, refusalWord}
 use Rattle.common.proofs.Bytes.{bytes-take, bytes-drop, value-of-bytes, value-small, bytes-of-value}
@@ -73,13 +74,9 @@ read-any words w = go (offsetFits words) refl
     go false e = only-so (formOf words) (tooFar known long (fits ∙ e))
 
 -- A clock that has a form has both of these.
-parts : (a b : Bool) → (a && b) ≡ true → (a ≡ true) × (b ≡ true)
-parts true b e = (refl, e)
-parts false b e = absurd (false≢true e)
-
 fits-and-zero : (words : List ℕ) → hasForm words ≡ true → (offsetFits words ≡ true) × (spareIsZero words ≡ true)
 unfolding hasForm
-fits-and-zero words e = parts (offsetFits words) (spareIsZero words) e
+fits-and-zero words e = both-true (offsetFits words) (spareIsZero words) e
 
 -- So a clock that has a form is read as it was.
 pub read-written : (words : List ℕ) → Words words → hasForm words ≡ true → readForm (formOf words) ≡ reads words

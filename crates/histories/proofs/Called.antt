@@ -3,9 +3,9 @@ use mathlib.Core.Path.{_≡_, refl, sym, ap, subst, _∙_}
 use mathlib.Core.List.{List, [], _∷_}
 use Prim.Native.Nat.{ℕ, zero, suc, _<_}
 use native.Mathlib.Omega.{arith}
-use lib.ListN.{length, getD, take}
+use lib.ListN.{length, getD}
 use Rattle.serial.specs.Port.{Port}
-use Rattle.runs.specs.Run.{Op, step}
+use Rattle.runs.specs.Run.{step}
 use Rattle.play.specs.Play.{word}
 use Rattle.serial_saved.specs.Saved.{Restore, restoreOf}
 use Rattle.serial_saved.proofs.Saving.{restore-word}

@@ -2,13 +2,12 @@
 use mathlib.Core.Path.{_≡_, refl, sym, ap, _∙_}
 use mathlib.Core.Bool.{Bool, true, false, cond, false≢true}
 use mathlib.Core.List.{List, [], _∷_}
-use Prim.Native.Nat.{ℕ, _≤_}
-use native.Mathlib.Omega.{arith}
-use lib.ListN.{length, getD}
+use Prim.Native.Nat.{_≤_}
+use lib.ListN.{getD}
 use Rattle.serial.specs.Port.{Port, line}
 use Rattle.runs.specs.Told.{endsIn, RaisedSince}
 use Rattle.runs.proofs.Told.{rise-raises, raised-since}
-use Rattle.serial_saved.specs.Saved.{fits, raisedAgain, Restore, restoreOf}
+use Rattle.serial_saved.specs.Saved.{fits, restoreOf}
 use Rattle.serial_saved.proofs.Raising.{high-raised}
 use Rattle.histories.specs.History.{Deed, does, save, restore, bring, Standing, begins, backTo, Host, next, after, lineHere, raisesBy}
 

@@ -6,7 +6,8 @@ use mathlib.Core.List.{List, [], _∷_}
 use Rattle.sidebyside.specs.Answers.{Said, says, silent, none}
 use Rattle.pc16550d.specs.Chip.{Chip, withModem, masterReset, pin, Op, read, write, input, chipDoes, rises}
 
--- What is seen of the chip at one line: the reply, the bytes sent, and 1 where the interrupt pin rises at some moment of the access, else 0.
+-- What is seen of the chip at one line: the reply, the bytes sent, and 1 where the interrupt pin rises at some moment of the access, else
+-- 0.
 pub record Seen : Type 0 where
   pub reply : Said
   pub sent : List ℕ
@@ -14,15 +15,16 @@ pub record Seen : Type 0 where
 
 -- ---- A line of a list, with the manual's answer
 
--- `serial` resets the chip. To an access belongs what is seen by the manual; to one that reads what a reset leaves alone, where in the chip it
--- is. The level is the interrupt pin's.
+-- `serial` resets the chip. To an access belongs what is seen by the manual; to one that reads what a reset leaves alone, where in the chip
+-- it is. The level is the interrupt pin's.
 pub data Line : Type 0 where
   serial : Line
   access : Op → Seen → Line
   kept : Op → (Chip → ℕ) → Line
   level : ℕ → Line
 
--- `r OO => r VV N`; `r OO` where the manual is silent; `w OO VV => w -- N`, and `w SS N` with the byte sent; `b HH.. => b T N`, T bytes come.
+-- `r OO => r VV N`; `r OO` where the manual is silent; `w OO VV => w -- N`, and `w SS N` with the byte sent; `b HH.. => b T N`, T bytes
+-- come.
 abbrev pub r : ℕ → ℕ → ℕ → Line
 r address v n = access (read address) (record { reply = says v; sent = []; rose = n })
 

@@ -10,7 +10,8 @@ use Rattle.serial_saved.specs.Calls.{Saves, Restores}
 use Rattle.serial_form.specs.Form.{readForm}
 use Rattle.serial_form.specs.Calls.{Encodes, Decodes}
 
--- The first host saves its port, whatever lay where it saves the waiting bytes to, and writes what it saved into memory with room for the form: so many bytes of that memory leave.
+-- The first host saves its port, whatever lay where it saves the waiting bytes to, and writes what it saved into memory with room for the
+-- form: so many bytes of that memory leave.
 pub record Leaves (regs pos ring form : List ℕ) : Type 0 where
   pub waiting₀ : List ℕ
   pub saved : List ℕ

@@ -129,9 +129,3 @@ pub each-raised : (r′ t′ r t : Bool) → Signal (r || t) (r′ || t′) (new
 each-raised true t′ r t = record { rise = λ low high. rw (neither r t low .0) (omega arith); high = λ h. refl }
 each-raised false true r t = record { rise = λ low high. rw (neither r t low .0, neither r t low .1) (omega arith); high = λ h. refl }
 each-raised false false r t = record { rise = λ low high. absurd (false≢true high); high = λ h. absurd (none-raised r t h) }
-
--- ---- Booleans
-pub both-true : (a b : Bool) → (a && b) ≡ true → (a ≡ true) × (b ≡ true)
-both-true true true e = (refl, refl)
-both-true true false e = absurd (false≢true e)
-both-true false b e = absurd (false≢true e)

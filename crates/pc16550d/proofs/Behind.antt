@@ -8,7 +8,8 @@ use native.Mathlib.Omega.{arith}
 use lib.ListN.{length, length-append}
 use lib.Bits.{bitAnd, bitOr, bitXor, or-mod, and-le-r}
 use lib.Dec.{eqb, ltb, lit≤, lit<}
-use borrow.Author.Tests.{eqb-true, ltb-true, ltb-false, lt-ltb, le-ltb}
+use borrow.Author.Tests.{eqb-true, ltb-false, lt-ltb}
+use Rattle.common.proofs.Booleans.{both-true}
 use Rattle.common.specs.Bits.{on}
 use Rattle.common.specs.Lists.{some}
 use Rattle.sidebyside.specs.Answers.{Said, says, silent, none, Answer, answers, refuses, Fits}
@@ -26,7 +27,7 @@ use Rattle.pc16550d.specs.Compare.{receives, fed, pair, serial-transmitt
 use Rattle.pc16550d.specs.Runs.{begins}
 use Rattle.pc16550d.specs.Behind.{tuned, Follows, holds, carefulWrite, careful, carefulRun, compared, comparedAt, FitsBy, AlikeBehind}
 use Rattle.pc16550d.specs.Behind.{AlikeRun, linuxBoots}
-use Rattle.pc16550d.proofs.Agreement.{named, same-map, pin-is, Signal, calm, each-raised, both-true}
+use Rattle.pc16550d.proofs.Agreement.{named, same-map, pin-is, Signal, calm, each-raised}
 use Rattle.pc16550d.proofs.Reading.{ReadAgrees, read-complete, loop-kept}
 use Rattle.pc16550d.proofs.Writing.{WriteAgrees}
 use Rattle.pc16550d.proofs.Transmitting.{dataAfter, written, thr-next, same-sent}

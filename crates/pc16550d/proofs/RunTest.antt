@@ -7,6 +7,7 @@ use native.Mathlib.Omega.{arith}
 use lib.ListN.{getD, drop}
 use lib.Dec.{eqb, ltb, lit≤}
 use borrow.Author.Tests.{eqb-true, ltb-true}
+use Rattle.common.proofs.Booleans.{both-true}
 use Rattle.sidebyside.specs.Answers.{Said, says, silent, none, Answer, answers, refuses, Fits}
 use Rattle.sidebyside.specs.Runs.{RowFree}
 use Rattle.serial.specs.Port.{Port}
@@ -14,7 +15,7 @@ use Rattle.pc16550d.specs.Chip.{Chip, Op, pin, chipDoes, rises}
 use Rattle.pc16550d.specs.Chip as chip
 use Rattle.pc16550d.specs.Compare.{Done, deviceDoes, chipOf, Sound, Agrees, pair}
 use Rattle.pc16550d.specs.Runs.{begins}
-use Rattle.pc16550d.proofs.Agreement.{pin-is, both-true}
+use Rattle.pc16550d.proofs.Agreement.{pin-is}
 use Rattle.pc16550d.proofs.Exact.{real}
 use Rattle.pc16550d.proofs.Keeping.{keeps, fresh-sound}
 

@@ -8,6 +8,7 @@ use native.Mathlib.Omega.{arith}
 use native.Mathlib.Nat.{zero-add, add-zero}
 use lib.ListN.{length}
 use borrow.Author.Tests.{lt-ltb, le-ltb}
+use Rattle.common.proofs.Booleans.{both-true}
 use Rattle.common.specs.Lists.{some}
 use Rattle.interrupts.specs.Interrupts.{receivedData, transmitterEmpty, isEnabled, isActive, isHigh, newly, byteSent}
 use Rattle.interrupts.proofs.Laws.{set-active, newly-same}
@@ -16,7 +17,7 @@ use Rattle.serial.specs.Port as device
 use Rattle.pc16550d.specs.Chip.{Chip, pin, loads, transmits, held, left, arrives, writeThr, rising, rises}
 use Rattle.pc16550d.specs.Chip as chip
 use Rattle.pc16550d.specs.Compare.{chipOf, enables, Sound, Row, writes, serial-thr-burst, serial-loop-overrun}
-use Rattle.pc16550d.proofs.Agreement.{pin-is, held-pin, Signal, agrees-by, none-raised, neither, both-true}
+use Rattle.pc16550d.proofs.Agreement.{pin-is, held-pin, Signal, agrees-by, none-raised, neither}
 use Rattle.pc16550d.proofs.Reading.{loop-kept}
 use Rattle.pc16550d.proofs.Receiving.{received}
 use Rattle.pc16550d.proofs.Writing.{WriteAgrees}

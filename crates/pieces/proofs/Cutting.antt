@@ -1,13 +1,11 @@
 -- What each answer of the cutting is in the definition.
 use Prim.Native.Nat.{ℕ, _+_, _-_, _≤_, _<_}
-use mathlib.Core.Path.{_≡_, refl, sym, ap, _∙_}
-use mathlib.Core.Bool.{Bool, true, false, cond}
+use mathlib.Core.Path.{_≡_, refl}
+use mathlib.Core.Bool.{Bool, true, false}
 use mathlib.Core.List.{List}
-use native.Mathlib.Omega.{arith}
 use lib.ListN.{length, getD}
 use borrow.Author.Tests.{eq-eqb, ne-eqb, lt-ltb, le-ltb, le-leb, lt-leb}
 use Rattle.pieces.specs.Cutting.{longest, kindOf, bytesFrom, stopOf, cutOf}
-use Rattle.pieces.specs.declared.cut.Cut.{Cut}
 use Rattle.pieces.specs.declared.cut.Kind.{Kind}
 use Rattle.pieces.specs.declared.cut.Kind.the-variants.{Silent, TooLong, Whole}
 

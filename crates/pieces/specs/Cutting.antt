@@ -16,20 +16,22 @@ longest = 8192
 -- Passed over: the rest of a line that was too long, an empty line, a comment (0x23 is `#`).
 unfoldable pub kindOf : List ℕ → Bool → Kind
 kindOf line passes =
-    cond passes Silent (cond (eqb (length line) 0) Silent (cond (eqb (getD line 0 0) 0x23) Silent (cond (ltb longest (length line)) TooLong Whole)))
+    cond passes Silent
+    (cond (eqb (length line) 0) Silent (cond (eqb (getD line 0 0) 0x23) Silent (cond (ltb longest (length line)) TooLong Whole)))
 
 -- Those from one place up to another.
 abbrev pub bytesFrom : ℕ → ℕ → List ℕ → List ℕ
 bytesFrom from to all = take (to - from) (drop from all)
 
--- The current line starts at `from` and has no newline (0x0a) before `seen`. It ends at the first newline before `end`. Where there is none it goes
--- on, unless it is too long already: then it is done with, and what is left of it is passed over.
+-- The current line starts at `from` and has no newline (0x0a) before `seen`. It ends at the first newline before `end`. Where there is none
+-- it goes on, unless it is too long already: then it is done with, and what is left of it is passed over.
 abbrev pub stopOf : List ℕ → ℕ → ℕ → ℕ
 stopOf all seen end = seen + indexOf 0x0a (slice seen end all)
 
 unfoldable pub cutOf : List ℕ → ℕ → ℕ → ℕ → Bool → Cut
 cutOf all from seen end passes =
     let stop = stopOf all seen end in
-    cond (ltb stop end) (record { kind = kindOf (bytesFrom from stop all) passes; stop = stop; from = stop + 1; seen = stop + 1; passes = false })
+    cond (ltb stop end)
+    (record { kind = kindOf (bytesFrom from stop all) passes; stop = stop; from = stop + 1; seen = stop + 1; passes = false })
     (cond (leb (end - from) longest) (record { kind = Silent; stop = stop; from = from; seen = end; passes = passes })
     (record { kind = kindOf (bytesFrom from end all) passes; stop = stop; from = end; seen = end; passes = true }))

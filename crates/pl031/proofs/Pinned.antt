@@ -1,7 +1,7 @@
 -- The chip by itself, from reset: runs with the answers that the manual's rules give. Inside a row nothing else holds the definition to the
 -- manual.
 use mathlib.Core.Path.{refl}
-use mathlib.Core.List.{List, [], _∷_}
+use mathlib.Core.List.{[], _∷_}
 use Prim.Native.Nat.{ℕ}
 use Rattle.sidebyside.specs.Runs.{Step, does, tells, hushes, Told}
 use Rattle.pl031.specs.Chip.{second, read, write, afterReset}

@@ -1,5 +1,5 @@
--- The PL031 real time clock by its manual (Arm DDI 0224): its registers, what each access does, and what a second does. Nothing here is taken
--- from the device. The manual was not at hand: its facts were collected from memory and held against drivers and QEMU's PL031
+-- The PL031 real time clock by its manual (Arm DDI 0224): its registers, what each access does, and what a second does. Nothing here is
+-- taken from the device. The manual was not at hand: its facts were collected from memory and held against drivers and QEMU's PL031
 -- (docs/MANUALS.md).
 --
 -- Left out: time between seconds, and the time of an access to take effect; the test registers; the reset and the interrupt as wires, but
@@ -73,8 +73,8 @@ writeLr c v = comes (record { counter = c .counter; running = c .running; lr = v
 abbrev pub writeCr : Chip → ℕ → Chip
 writeCr c v = record { counter = c .counter; running = c .running || on v 0x01; lr = c .lr; mr = c .mr; imsc = c .imsc; ris = c .ris }
 
--- MR, IMSC and ICR, which clears the raw status where its bit 0 is 1. To write MR with the counter's value is no match (in QEMU it is one): a
--- reading, docs/DECISIONS.md.
+-- MR, IMSC and ICR, which clears the raw status where its bit 0 is 1. To write MR with the counter's value is no match (in QEMU it is one):
+-- a reading, docs/DECISIONS.md.
 abbrev pub alarm : Chip → ℕ → ℕ → ℕ → Chip
 alarm c mr imsc ris = record { counter = c .counter; running = c .running; lr = c .lr; mr = mr; imsc = imsc; ris = ris }
 

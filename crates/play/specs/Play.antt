@@ -101,8 +101,8 @@ pub record Does (p : Port) (o : Op) (p′ : Port) (r : ℕ) : Type 0 where
   pub port : p′ ≡ step p o .port
   pub answer : r ≡ word (step p o .answer)
 
--- What the call by itself promises of it: the word and the port; the bytes of the ring that do not wait after it are as they were, and so is
--- what is spare; where the port stays what it was not a byte changes.
+-- What the call by itself promises of it: the word and the port; the bytes of the ring that do not wait after it are as they were, and so
+-- is what is spare; where the port stays what it was not a byte changes.
 abbrev pub Answered : Op → List ℕ → List ℕ → List ℕ → List ℕ → List ℕ → List ℕ → ℕ → Type 0
 Answered o regs pos ring regs′ pos′ ring′ r =
     let d = step (portOf regs pos ring) o in Answers regs pos ring regs′ pos′ ring′ r (d .port) (word (d .answer))
@@ -133,9 +133,9 @@ pub record Refused (regs pos ring answers regs′ pos′ ring′ answers′ : Li
   pub ring-stay : ring′ ≡ ring
   pub answers-stay : answers′ ≡ answers
 
--- What is malformed, or asks more than there is room to answer, is refused. What is played is what the single calls would have done, one after
--- another. What is spare in the memory stays, and where no operation changes the port not a byte of the memory changes. (A run may come back
--- to the port that it left and have moved the waiting bytes; and a byte that came and was read lies in the ring still.)
+-- What is malformed, or asks more than there is room to answer, is refused. What is played is what the single calls would have done, one
+-- after another. What is spare in the memory stays, and where no operation changes the port not a byte of the memory changes. (A run may
+-- come back to the port that it left and have moved the waiting bytes; and a byte that came and was read lies in the ring still.)
 pub record Plays (regs pos ring ops inputs answers regs′ pos′ ring′ answers′ : List ℕ) (r : Bool) : Type 0 where
   pub plays : (os : List Op) → decode ops inputs ≡ asks os → length os ≤ length answers
       → Played (portOf regs pos ring) os answers (portOf regs′ pos′ ring′) answers′ r

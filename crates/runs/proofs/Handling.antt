@@ -1,10 +1,11 @@
 -- A handler that does what it is told ends, and has fetched every byte; and what an edge-triggered host can miss.
-use mathlib.Core.Path.{_≡_, refl, sym, ap, _∙_}
+use mathlib.Core.Path.{_≡_, refl, ap}
 use mathlib.Core.Bool.{Bool, true, false, cond, _&&_, true≢false, false≢true}
 use mathlib.Core.List.{List, [], _∷_, tail}
 use Prim.Native.Nat.{ℕ, zero, suc, _+_, _≤_}
 use native.Mathlib.Omega.{arith}
 use lib.ListN.{length}
+use Rattle.common.proofs.Booleans.{both-true}
 use Rattle.common.specs.Bits.{on}
 use Rattle.common.specs.Lists.{some, firstOr0}
 use Rattle.interrupts.specs.Interrupts.{receivedData, transmitterEmpty, nonePending, isHigh, code, settled, ierStored}
@@ -70,10 +71,6 @@ first-then : (q l : List ℕ) → some q ≡ true → l ≡ tail q → firstOr0 
 first-then [] l h e = absurd (false≢true h)
 first-then (x ∷ q) l h e = ap (λ (t : List ℕ). x ∷ t) e
 
-waits : (e w : Bool) → (e && w) ≡ true → (e ≡ true) × (w ≡ true)
-waits true w h = (refl, h)
-waits false w h = absurd (false≢true h)
-
 -- a read of RBR leaves the transmitter's interrupt
 still-empty : (p : Port) → active (readRbr p .port) transmitterEmpty ≡ active p transmitterEmpty
 still-empty p = go (some (tail (p .waiting)))
@@ -103,7 +100,7 @@ one-round n p o true t r e h more =
     let still : _≡_ {A = ℕ} (cond (active (readRbr p .port) transmitterEmpty) 1 0) (cond (active p transmitterEmpty) 1 0) = ap
     (λ (b : Bool). cond b 1 0) (still-empty p) in
     let ih = more (readRbr p .port) o (omega (arith, h, fewer (enabled p receivedData) (p .waiting) r, still)) in
-    let w = waits (enabled p receivedData) (some (p .waiting)) r in
+    let w = both-true (enabled p receivedData) (some (p .waiting)) r in
     rw (served-data n p o r) (record { low = ih .low; all = λ k. first-then (p .waiting) _ (w .1) (ih .all k) })
 one-round n p o false true r e h more =
     let q = withReceiver p nonePending (p .lsr) (p .waiting) in

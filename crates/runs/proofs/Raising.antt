@@ -1,22 +1,22 @@
 -- Every operation raises once for each kind that is active after it and was not before it; and what is stored in IIR stays settled.
-use mathlib.Core.Path.{_≡_, refl, sym, ap, subst, _∙_}
-use mathlib.Core.Bool.{Bool, true, false, cond, not, _&&_, true≢false, false≢true}
+use mathlib.Core.Path.{_≡_, refl, sym, ap, _∙_}
+use mathlib.Core.Bool.{Bool, true, false, cond, not, _&&_, false≢true}
 use mathlib.Core.List.{List, [], _∷_, _++_, tail}
 use Prim.Native.Nat.{ℕ, _+_}
 use native.Mathlib.Omega.{arith}
 use lib.Bits.{bitOr}
 use lib.Dec.{eqb}
-use borrow.Author.Tests.{eqb-true}
+use Rattle.common.proofs.Booleans.{both-true, both-are}
 use Rattle.common.specs.Bits.{on}
 use Rattle.common.specs.Lists.{some}
 use Rattle.interrupts.specs.Interrupts.{Kind, receivedData, transmitterEmpty, nonePending, isActive, code, settled, newly}
-use Rattle.interrupts.proofs.Laws.{newly-same, settled-keeps, set-active}
+use Rattle.interrupts.proofs.Laws.{settled-keeps, set-active}
 use Rattle.serial.specs.Port.{Port, Out, Input, Settings, addressed, isOpen, withSettings, active, becomes, readRbr, readIir, receives}
 use Rattle.serial.specs.Port.{emptied, writeIer, writeLine, takesNone}
 use Rattle.runs.specs.Run.{Op, read, write, input, room, raisesOf, didInput, step}
 use Rattle.runs.specs.Reachable.{Settled}
 use Rattle.runs.specs.Told.{raisedFrom}
-use Rattle.runs.proofs.Effects.{returned, dropped, read-cases, write-cases, input-cases}
+use Rattle.runs.proofs.Effects.{returned, read-cases, write-cases, input-cases}
 use Rattle.runs.proofs.Status.{some-more}
 
 -- ---- What is new from one to another and on to a third
@@ -34,17 +34,6 @@ none-new : (a b : Bool) → (b ≡ true → a ≡ true) → newly a b ≡ 0
 none-new true b h = refl
 none-new false true h = absurd (false≢true (h refl))
 none-new false false h = refl
-
-pub left : (a b : Bool) → (a && b) ≡ true → a ≡ true
-left true b h = refl
-left false b h = absurd (false≢true h)
-
-pub right : (a b : Bool) → (a && b) ≡ true → b ≡ true
-right true b h = h
-right false b h = absurd (false≢true h)
-
-pub both : {a b : Bool} → a ≡ true → b ≡ true → (a && b) ≡ true
-both h k = rw (h, k)
 
 none-from : (p q : Port) → ((kind : Kind) → active q kind ≡ true → active p kind ≡ true) → raisedFrom p q ≡ 0
 none-from p q h =
@@ -94,7 +83,7 @@ module _ (p : Port) (l : List ℕ) (s : some l ≡ true) where
 
   came-active : (kind : Kind) → active p kind ≡ true → active (receives p l .port) kind ≡ true
   unfolding receives
-  came-active receivedData h = both (left (on (p .settings .ier) 0x01) (some (p .waiting)) h) come
+  came-active receivedData h = both-are (both-true (on (p .settings .ier) 0x01) (some (p .waiting)) h .0) come
   came-active transmitterEmpty h = go (some (p .waiting)) h
     where
       go : (w : Bool) → isActive (p .settings .ier) (p .iir) w transmitterEmpty ≡ true
@@ -117,7 +106,7 @@ module _ (p : Port) where
   emptied-active : (kind : Kind) → active p kind ≡ true → active (emptied p) kind ≡ true
   emptied-active receivedData h = h
   emptied-active transmitterEmpty h =
-      let e = left (on (p .settings .ier) 0x02) (on (p .iir) 0x02) h in
+      let e = both-true (on (p .settings .ier) 0x02) (on (p .iir) 0x02) h .0 in
       ap (λ (iir : ℕ). isActive (p .settings .ier) iir (some (p .waiting)) transmitterEmpty) (told e)
       ∙ set-active (p .settings .ier) (p .iir) (some (p .waiting)) ∙ e
     where
@@ -143,7 +132,8 @@ module _ (p : Port) where
   read-active receivedData h =
       let e = on (p .settings .ier) 0x01 in
       let w = some (tail (p .waiting)) in
-      both (left e w h) (tail-waits (p .waiting) (right e w h))
+      let k = both-true e w h in
+      both-are (k .0) (tail-waits (p .waiting) (k .1))
   read-active transmitterEmpty h = go (some (tail (p .waiting))) h
     where
       go : (w : Bool) → isActive (p .settings .ier) (cond w (p .iir) (settled (p .settings .ier) (p .iir) false)) w transmitterEmpty ≡ true
@@ -165,7 +155,7 @@ module _ (p : Port) where
     where
       go : (t : Bool) → isActive (p .settings .ier) (cond t nonePending (p .iir)) (some (p .waiting)) transmitterEmpty ≡ true
           → isActive (p .settings .ier) (p .iir) (some (p .waiting)) transmitterEmpty ≡ true
-      go true k = absurd (false≢true (right (on (p .settings .ier) 0x02) false k))
+      go true k = absurd (false≢true (both-true (on (p .settings .ier) 0x02) false k .1))
       go false k = k
 
   identified-settled : Settled p → Settled (readIir p .port)

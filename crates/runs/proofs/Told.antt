@@ -1,7 +1,7 @@
 -- What the guest is told, over every run and from any port.
-use mathlib.Core.Path.{_≡_, refl, sym, ap, subst, _∙_}
+use mathlib.Core.Path.{_≡_, refl, sym, ap, _∙_}
 use mathlib.Core.Logic.{_⊎_, inl, inr, ⊎-elim}
-use mathlib.Core.Bool.{Bool, true, false, cond, not, _&&_, _||_, true≢false, false≢true}
+use mathlib.Core.Bool.{Bool, true, false, _||_, true≢false, false≢true}
 use mathlib.Core.List.{List, [], _∷_}
 use Prim.Native.Nat.{ℕ, _+_, _≤_}
 use native.Mathlib.Omega.{arith}
@@ -9,8 +9,8 @@ use Rattle.common.specs.Lists.{some}
 use Rattle.interrupts.specs.Interrupts.{Kind, receivedData, transmitterEmpty, isHigh, code, newly}
 use Rattle.serial.specs.Port.{Port, addressed, active, line, readRegister, readOf}
 use Rattle.runs.specs.Run.{Op, raisesOf, step, run}
-use Rattle.runs.specs.Told.{enabled, raisedFrom, endsIn, Stays, RaisedSince, now, later, portNext, portRaises}
-use Rattle.runs.proofs.Raising.{left, right, both, raises-exactly}
+use Rattle.runs.specs.Told.{enabled, endsIn, Stays, RaisedSince, now, later, portNext, portRaises}
+use Rattle.runs.proofs.Raising.{raises-exactly}
 
 -- ---- A call
 

@@ -1,5 +1,5 @@
 -- No kind of interrupt is enabled: what the calls that are made then promise each other.
-use mathlib.Core.Path.{_≡_, refl, sym, ap, _∙_}
+use mathlib.Core.Path.{_≡_, refl, sym}
 use mathlib.Core.Bool.{Bool, true, false, cond, not}
 use mathlib.Core.List.{List}
 use Prim.Native.Nat.{ℕ}
@@ -7,7 +7,7 @@ use native.Mathlib.Omega.{arith}
 use lib.Dec.{eqb}
 use lib.ListN.{getD, set}
 use lib.Seq.{set-getD}
-use Rattle.interrupts.specs.Interrupts.{nonePending, byteSent, dataCame}
+use Rattle.interrupts.specs.Interrupts.{nonePending}
 use Rattle.interrupts.specs.Calls.{Quiet}
 use Rattle.interrupts.proofs.Laws.{quiet-sent, quiet-came}
 use Rattle.line_status.specs.LineStatus.{lsrReady}

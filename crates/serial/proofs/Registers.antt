@@ -7,7 +7,7 @@ use lib.ListN.{length, set, length-set}
 use lib.Seq.{drop-set-lt}
 use Rattle.serial.specs.Port.{Port, Settings, fresh, withSettings, withReceiver, putIer}
 use Rattle.ring.specs.Ring.{queue}
-use Rattle.serial.specs.Layout.{size, places, startOf, countOf, portOf, spareRegisters, sparePositions}
+use Rattle.serial.specs.Layout.{size, places, startOf, countOf, portOf, spareRegisters}
 use Rattle.serial.specs.Calls.{MakesFresh}
 
 nine : (P : List ℕ → Type 0) → ((a b c d e f g h i : ℕ) (l : List ℕ) → P (a ∷ b ∷ c ∷ d ∷ e ∷ f ∷ g ∷ h ∷ i ∷ l)) → (l : List ℕ)

@@ -15,8 +15,8 @@ written bytes memory = bytes ++ drop (length bytes) memory
 
 -- ---- Writing
 
--- How long the form is. It is written where there is room for it. More bytes than may wait are refused, and then a spare register other than
--- 0, which the form does not have.
+-- How long the form is. It is written where there is room for it. More bytes than may wait are refused, and then a spare register other
+-- than 0, which the form does not have.
 
 abbrev pub mayWait : List ℕ → Bool
 mayWait waiting = leb (length waiting) size

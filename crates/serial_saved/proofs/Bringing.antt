@@ -1,5 +1,5 @@
 -- What each answer of the two calls is in the definition.
-use mathlib.Core.Path.{_≡_, refl, sym, ap, subst, _∙_}
+use mathlib.Core.Path.{_≡_, refl, sym, ap, _∙_}
 use mathlib.Core.Logic.{_↔_}
 use mathlib.Core.Bool.{Bool, true, false, cond, false≢true, true≢false}
 use mathlib.Core.List.{List, [], _∷_}
@@ -7,16 +7,16 @@ use Prim.Native.Nat.{ℕ, _+_, _*_, _-_, _≤_, _<_}
 use native.Mathlib.Nat.{zero-add}
 use native.Mathlib.Omega.{arith}
 use mir.Val.{boolByte}
-use lib.ListN.{length, set, take, drop}
+use lib.ListN.{length, set, take}
 use lib.Seq.{take-length}
 use borrow.Author.Tests.{le-leb, lt-leb}
 use Rattle.serial.specs.Port.{Port}
 use Rattle.ring.specs.Ring.{queue}
-use Rattle.serial.specs.Layout.{size, places, startOf, countOf, portOf, unusedOf, sparePositions}
+use Rattle.serial.specs.Layout.{size, places, startOf, countOf, portOf, sparePositions}
 use Rattle.ring.specs.Ring.{Put, Unrolled}
 use Rattle.serial.proofs.Answering.{waiting-length}
 use Rattle.serial_saved.specs.Saved.{savedOf, raisedAgain, Restore, restoreOf}
-use Rattle.serial_saved.specs.Calls.{Saves, restoreWord, ReachableSaved, Restores}
+use Rattle.serial_saved.specs.Calls.{Saves, ReachableSaved, Restores}
 
 -- Registers and waiting bytes are the whole port.
 pub same-port : (regs pos ring waiting : List ℕ)

@@ -88,8 +88,8 @@ module _ (x : Pair) where
 
   -- ---- A row, shown by a run from a state of the device
 
-  -- After `before` the call is in a row, and to the last call of `behind`, or to the call itself where there is none, the device answers `ours`
-  -- and the manual says `theirs`. The chip has run beside from the same state.
+  -- After `before` the call is in a row, and to the last call of `behind`, or to the call itself where there is none, the device answers
+  -- `ours` and the manual says `theirs`. The chip has run beside from the same state.
   pub record Shown (begins : x .Device) (before : List (x .Op)) (call : x .Op) (behind : List (x .Op)) (ours theirs : ℕ) : Type 0 where
     pub row : x .Row (deviceAfter begins before) call
     pub device : deviceLast (deviceAfter begins before) call behind ≡ answers ours

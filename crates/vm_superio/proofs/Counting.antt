@@ -118,14 +118,6 @@ under false a b = refl
 
 -- ---- Booleans
 
-pub both-true : (a b : Bool) → (a && b) ≡ true → (a ≡ true) × (b ≡ true)
-both-true true true e = (refl, refl)
-both-true true false e = absurd (false≢true e)
-both-true false b e = absurd (false≢true e)
-
-pub both-are : {a b : Bool} → a ≡ true → b ≡ true → (a && b) ≡ true
-both-are e f = rw (e, f) refl
-
 pub three-true : (a b c : Bool) → (a && b && c) ≡ true → (a ≡ true) × (b ≡ true) × (c ≡ true)
 three-true true true true e = (refl, refl, refl)
 three-true true true false e = absurd (false≢true e)

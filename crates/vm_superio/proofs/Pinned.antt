@@ -1,11 +1,11 @@
 -- What answers have in common leaves out the reply to a read of IIR and the number of raises, and nothing else: where two are the same in
 -- common, all the rest of them is the same.
-use mathlib.Core.Path.{_≡_, refl, ap}
+use mathlib.Core.Path.{_≡_, ap}
 use mathlib.Core.Bool.{Bool, true, false, true≢false}
 use mathlib.Core.List.{List, [], _∷_, tail}
 use Prim.Native.Nat.{ℕ}
 use borrow.Author.Tests.{ne-eqb}
-use Rattle.runs.specs.Run.{Op, read, write, input, room, Answer, replied, sent, took, full, hasRoom}
+use Rattle.runs.specs.Run.{Op, read, room, Answer, replied, sent, took, full, hasRoom}
 use Rattle.vm_superio.specs.Beside.{isIirRead, common, commons}
 
 -- The number in an answer, the bytes, and whether it is "full".

@@ -4,6 +4,7 @@ use mathlib.Core.List.{List}
 use mathlib.Core.Bool.{Bool, true, false, cond, not, _&&_, true≢false}
 use Prim.Native.Nat.{ℕ, _+_, _≤_}
 use native.Mathlib.Omega.{arith}
+use Rattle.common.proofs.Booleans.{both-true, both-are}
 use Rattle.common.specs.Bits.{on}
 use Rattle.interrupts.specs.Interrupts.{receivedData, transmitterEmpty, ierStored, isEnabled, settled}
 use Rattle.serial.specs.Port.{IER, Port, active}
@@ -20,7 +21,7 @@ use Rattle.vm_superio.specs.Beside.{original-quiet-data, original-enable
 use Rattle.vm_superio.specs.Beside.{original-enables-transmitter-again}
 use Rattle.vm_superio.specs.Restored.{ported, NoneLost, NoneLostBack}
 use Rattle.vm_superio.proofs.Marks.{once}
-use Rattle.vm_superio.proofs.Counting.{both-true, both-are, three-true, not-true}
+use Rattle.vm_superio.proofs.Counting.{three-true, not-true}
 use Rattle.vm_superio.proofs.Reached.{Reached, all-reached, marked-waits}
 
 -- ---- To ours

@@ -4,6 +4,7 @@ use mathlib.Core.Logic.{_⊎_, inl, inr}
 use mathlib.Core.List.{[], _∷_}
 use mathlib.Core.Bool.{Bool, true, false, cond, not, _&&_, true≢false, false≢true, and-true}
 use Prim.Native.Nat.{ℕ, _+_}
+use Rattle.common.proofs.Booleans.{both-true, both-are}
 use Rattle.interrupts.specs.Interrupts.{receivedData, transmitterEmpty, ierStored, isEnabled}
 use Rattle.serial.specs.Port.{Port, RBR-THR, IER, inLoop, hasRoom, active, writeLine, writeLoop, writeThr, writeIer}
 use Rattle.serial.specs.Port as ours
@@ -19,8 +20,8 @@ use Rattle.vm_superio.proofs.Marks.{once}
 use Rattle.vm_superio.proofs.Twins.{twin, Held}
 use Rattle.vm_superio.proofs.Counting.{alone, Off, more, less, counted, off-real}
 use Rattle.vm_superio.proofs.Counting.{OffBoth, moreData, lessData, moreTransmitter, lessTransmitter, both-counted, off-both-real}
-use Rattle.vm_superio.proofs.Counting.{ours-alone, theirs-alone, theirs-alone-active, quiet-data, data-again, under, both-true}
-use Rattle.vm_superio.proofs.Counting.{both-are, three-true, not-true}
+use Rattle.vm_superio.proofs.Counting.{ours-alone, theirs-alone, theirs-alone-active, quiet-data, data-again, under}
+use Rattle.vm_superio.proofs.Counting.{three-true, not-true}
 use Rattle.vm_superio.proofs.Counts.{ours-line, theirs-line, ours-loop, theirs-loop, ours-ier, theirs-ier}
 
 -- A write agrees.

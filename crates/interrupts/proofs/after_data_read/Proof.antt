@@ -1,5 +1,4 @@
 -- The answer is the definition, opened.
-use mathlib.Core.Path.{sym, _∙_}
 use borrow.Author.Needs.{needs}
 use Rattle.interrupts.proofs.after_data_read.Statement.{statement}
 use Rattle.interrupts.proofs.after_data_read.Tie as tie

@@ -1,5 +1,4 @@
 -- Each answer is a law of `Cutting`.
-use native.Mathlib.Omega.{arith}
 use Rattle.pieces.proofs.Cutting.{is-rest, is-empty, is-comment, is-too-long, is-whole}
 use borrow.Author.Needs.{needs}
 use Rattle.pieces.proofs.cut.kind_of.Statement.{statement}

@@ -1,5 +1,4 @@
 -- Each answer is a law of `Cutting`.
-use native.Mathlib.Omega.{arith}
 use Rattle.pieces.proofs.Cutting.{ends-here, goes-on, runs-over}
 use borrow.Author.Needs.{needs}
 use Rattle.pieces.proofs.cut.next_line.Statement.{statement}

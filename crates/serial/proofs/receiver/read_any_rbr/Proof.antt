@@ -1,4 +1,3 @@
-use mathlib.Core.Path.{_∙_}
 use Rattle.serial.specs.Layout.{portOf}
 use Rattle.serial.proofs.Reading.{reads-none, reads-first}
 use borrow.Author.Needs.{needs}

@@ -1,6 +1,6 @@
 -- Each answer is a law of `Reading`.
 use native.Mathlib.Omega.{arith}
-use Prim.Native.Nat.{ℕ, _≤_}
+use Prim.Native.Nat.{_≤_}
 use lib.ListN.{getD}
 use Rattle.serial.specs.Layout.{size, portOf}
 use Rattle.serial.proofs.Reading.{reads-several, reads-last}

@@ -1,4 +1,3 @@
-use mathlib.Core.Path.{_∙_}
 use borrow.Author.Needs.{needs}
 use Rattle.serial.proofs.waiting.take.Statement.{statement}
 use Rattle.serial.proofs.waiting.take.Tie as tie

@@ -1,5 +1,5 @@
 -- Its answer is a law of `Putting`, once the loop is done.
-use Prim.Native.Nat.{_+_, _-_, _≤_, _<_}
+use Prim.Native.Nat.{_+_, _-_, _≤_}
 use mathlib.Core.Path.{_≡_}
 use borrow.Author.Needs.{needs}
 use native.Mathlib.Omega.{arith}
