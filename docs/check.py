@@ -1,8 +1,8 @@
 #!/usr/bin/env python3
 """Holds the documents to the tree: each says only what is there.
 
-- every row of docs/DIFFERENCES.md (a heading `### name`) has a list of that name in lists/differences or lists/original, or says that no list shows
-  it, and every such list has a row;
+- every row of docs/DIFFERENCES.md (a heading `### name`) has a list of that name in lists/differences or lists/original, or says
+  that no list shows it, and every such list has a row;
 - every row that a definition names or that is a constructor of `Row` is there;
 - every theorem of docs/THEOREMS.md, written `name` ([file](path)), is declared in that file;
 - every link to a file leads to one.
@@ -62,14 +62,25 @@ def constructors_have_rows():
             yield f"docs/DIFFERENCES.md has the row {name}, which is no constructor of a Row"
 
 
+# What may stand before the name in a declaration.
+DECLARING = r"(?:pub |abbrev pub |unfoldable pub |pub record |pub data |pub extern \"C\" fn )*"
+
+
+# Names in a row, and the file that declares them: `a`, `b` and `c` ([File](path)), or (`a`, [File](path)).
+NAMES = r"((?:`[^`\s]+`(?:,? and|,)?\s+)+)"
+FILE = r"\[[^\]]*\]\(\.\./([^)]+)\)\)"
+
+
 def theorems_exist():
-    cited = re.findall(r"`([^`\s]+)`\s+\(\[[^\]]*\]\(\.\./([^)]+)\)\)", read("docs/THEOREMS.md"))
+    page = read("docs/THEOREMS.md")
+    rows = re.findall(NAMES + r"\(" + FILE, page) + re.findall(r"\(" + NAMES + FILE, page)
+    cited = [(name, path) for names, path in rows for name in re.findall(r"`([^`]+)`", names)]
     if not cited:
         yield "docs/THEOREMS.md cites no theorem"
     for name, path in cited:
         if not os.path.exists(os.path.join(ROOT, path)):
             yield f"docs/THEOREMS.md cites {path}, which is not there"
-        elif not re.search(rf"(?m)^\s*(?:pub |abbrev pub |unfoldable pub |pub record |pub data |pub extern \"C\" fn )*{re.escape(name)}\b", read(path)):
+        elif not re.search(rf"(?m)^\s*{DECLARING}{re.escape(name)}\b", read(path)):
             yield f"docs/THEOREMS.md cites {name}, which {path} does not declare"
 
 

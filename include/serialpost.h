@@ -31,19 +31,24 @@
 
 /* The version of all that is declared here: it changes with the calls, the structs and the answers. Where the library
  * that you have linked answers another number, make no other call. */
-#define SERIALPOST_VERSION 2
+#define SERIALPOST_VERSION 3
 
 static inline uint32_t serialpost_version(void)
 {
     return serialpost_raw_version();
 }
 
-/* ---- Answers. `raises` is how often to raise the interrupt. Today a read and the clock raise nothing. */
+/* ---- Answers. `raises` is how often to raise the interrupt. Today a read and the clock raise nothing. `word`, where
+ * there is one, is the answer as one number, for counting. */
 
 /* Of a read at the serial port. */
 struct serialpost_read {
     uint8_t reply;
     uint32_t raises;
+    bool data_read; /* RBR was read, from an empty buffer too */
+    bool delivered; /* a byte that waited left with the reply */
+    bool none_left; /* RBR was read, and no byte waits now */
+    uint32_t word;
 };
 
 /* Of a write. If `sends`, send `byte`, and raise after that. */
@@ -51,6 +56,9 @@ struct serialpost_written {
     bool sends;
     uint8_t byte;
     uint32_t raises;
+    bool looped;  /* in loopback: the byte was accepted, and waits to be read */
+    bool dropped; /* in loopback: there was no room for it */
+    uint32_t word;
 };
 
 /* Of bytes from your side. */
@@ -58,12 +66,14 @@ struct serialpost_input {
     uint32_t taken;
     bool full;
     uint32_t raises;
+    uint32_t word;
 };
 
 /* Of a read or a write at the clock. */
 struct serialpost_clock_access {
     bool refused;
     uint32_t raises;
+    uint32_t word;
 };
 
 /* Of a restore. `reachable`: a run from a fresh device could have come to this state. */
@@ -94,26 +104,36 @@ struct serialpost_encoded {
 
 static inline struct serialpost_read serialpost_read_of(uint32_t word)
 {
-    struct serialpost_read answer = { (uint8_t)word, word / SERIALPOST_WORD_RAISE };
+    struct serialpost_read answer = { (uint8_t)word,
+                                      word / SERIALPOST_WORD_RAISE,
+                                      (word & SERIALPOST_WORD_DATA_READ) != 0,
+                                      (word & SERIALPOST_WORD_DELIVERED) != 0,
+                                      (word & SERIALPOST_WORD_NONE_LEFT) != 0,
+                                      word };
     return answer;
 }
 
 static inline struct serialpost_written serialpost_written_of(uint32_t word)
 {
-    struct serialpost_written answer = { (word & SERIALPOST_WORD_SENDS) != 0, (uint8_t)word, word / SERIALPOST_WORD_RAISE };
+    struct serialpost_written answer = { (word & SERIALPOST_WORD_SENDS) != 0,
+                                         (uint8_t)word,
+                                         word / SERIALPOST_WORD_RAISE,
+                                         (word & SERIALPOST_WORD_LOOPED) != 0,
+                                         (word & SERIALPOST_WORD_DROPPED) != 0,
+                                         word };
     return answer;
 }
 
 static inline struct serialpost_input serialpost_input_of(uint32_t word)
 {
     struct serialpost_input answer = { word & SERIALPOST_WORD_NUMBER, (word & SERIALPOST_WORD_REFUSED) != 0,
-                                       word / SERIALPOST_WORD_RAISE };
+                                       word / SERIALPOST_WORD_RAISE, word };
     return answer;
 }
 
 static inline struct serialpost_clock_access serialpost_clock_access_of(uint32_t word)
 {
-    struct serialpost_clock_access answer = { (word & SERIALPOST_WORD_REFUSED) != 0, word / SERIALPOST_WORD_RAISE };
+    struct serialpost_clock_access answer = { (word & SERIALPOST_WORD_REFUSED) != 0, word / SERIALPOST_WORD_RAISE, word };
     return answer;
 }
 
@@ -171,21 +191,21 @@ static inline void serialpost_serial_init(struct serialpost_serial *port)
     serialpost_raw_serial_init(port->regs, port->pos);
 }
 
-/* The guest reads at `offset`. An offset that has no register, 8 and up, is refused: the reply is 0. */
+/* The guest reads at `offset`. A read where there is no register, at 8 and up, does nothing: the reply is 0. */
 static inline struct serialpost_read serialpost_serial_read(struct serialpost_serial *port, uint8_t offset)
 {
     return serialpost_read_of(serialpost_raw_serial_read(port->regs, port->pos, port->ring, offset));
 }
 
-/* The guest writes `value` at `offset`. An offset that has nothing to write, 2, 5, 6, 8 and up, is refused, and so is
- * a byte for the ring in loopback while 64 wait: nothing is sent or raised. */
+/* The guest writes `value` at `offset`. A write at 2, 5, 6, 8 and up, where nothing can be written, does nothing. A byte
+ * for the ring in loopback while 64 wait is dropped, and the transmitter, empty again, may raise. */
 static inline struct serialpost_written serialpost_serial_write(struct serialpost_serial *port, uint8_t offset, uint8_t value)
 {
     return serialpost_written_of(serialpost_raw_serial_write(port->regs, port->pos, port->ring, offset, value));
 }
 
-/* `length` bytes come from your side of the line. As many as there is room for are taken, from the first on. Refused:
- * any bytes while 64 wait, which answers `full`, and any bytes in loopback, which answers that none are taken.
+/* `length` bytes come from your side of the line. In loopback none are taken. Else as many as there is room for are, from
+ * the first on, and any bytes while 64 wait are refused, which answers `full`.
  * Keep what is not taken. Offer it again once the guest has read at SERIALPOST_RBR, which makes room, or has written
  * SERIALPOST_MCR, which ends a loopback: no raise tells you. */
 static inline struct serialpost_input serialpost_serial_input(struct serialpost_serial *port, const uint8_t *input,
@@ -356,6 +376,60 @@ static inline enum serialpost_reason serialpost_clock_decode(const uint8_t *form
     return serialpost_reason_of(serialpost_raw_clock_decode(form, length, saved));
 }
 
+/* ---- Counters, for those who run the machine. To count is your choice: hand the `word` of an answer to a count as it
+ * comes, or call none of these, and nothing is spent on it. Any memory is some counters. None of these calls refuses
+ * anything. A counter stops at 2^64 - 1. */
+
+struct serialpost_serial_counters {
+    uint64_t data_reads; /* reads of RBR, those of an empty buffer too */
+    uint64_t sent;       /* bytes that you were to send, the lost ones among them */
+    uint64_t lost;       /* bytes of these that your side did not take, as you said */
+    uint64_t none_left;  /* reads of RBR after which no byte waited */
+};
+
+/* Sets all of them to 0. */
+static inline void serialpost_serial_counters_init(struct serialpost_serial_counters *counters)
+{
+    serialpost_raw_serial_counters_init(counters);
+}
+
+/* Counts what an answer of the port tells: the word of a read or a write, or each word that serialpost_serial_play
+ * answers. That of an input has nothing to count. */
+static inline void serialpost_serial_count(struct serialpost_serial_counters *counters, uint32_t word)
+{
+    serialpost_raw_serial_count(counters, word);
+}
+
+/* A byte could not be sent: your side of the line did not take it. Its write is counted as any other, so that it is in
+ * `sent` too. */
+static inline void serialpost_serial_lost(struct serialpost_serial_counters *counters)
+{
+    serialpost_raw_serial_lost(counters);
+}
+
+struct serialpost_clock_counters {
+    uint64_t invalid_reads;  /* reads that were refused */
+    uint64_t invalid_writes; /* writes that were refused */
+};
+
+/* Sets both to 0. */
+static inline void serialpost_clock_counters_init(struct serialpost_clock_counters *counters)
+{
+    serialpost_raw_clock_counters_init(counters);
+}
+
+/* Counts what the answer to a read tells. */
+static inline void serialpost_clock_count_read(struct serialpost_clock_counters *counters, uint32_t word)
+{
+    serialpost_raw_clock_count_read(counters, word);
+}
+
+/* Counts what the answer to a write tells. */
+static inline void serialpost_clock_count_write(struct serialpost_clock_counters *counters, uint32_t word)
+{
+    serialpost_raw_clock_count_write(counters, word);
+}
+
 /* ---- Reset controller: of an i8042, the command that resets the machine. It has no state. */
 
 /* The guest reads at `offset`, counted from port 0x60. Answers 0. Refuses nothing. */
@@ -365,7 +439,7 @@ static inline uint8_t serialpost_i8042_read(uint8_t offset)
 }
 
 /* The guest writes `value` at `offset`. Answers whether the machine is to be reset. Any other write than 0xfe at
- * offset 4 is refused: false. */
+ * offset 4 does nothing: false. */
 static inline bool serialpost_i8042_write(uint8_t offset, uint8_t value)
 {
     return serialpost_raw_i8042_write(offset, value);

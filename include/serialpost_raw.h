@@ -3,7 +3,8 @@
  * read: it has a typed call for each of these and says what it does. This page is for the bindings of other languages.
  *
  * An answer of 32 bits is a word with the layout below; a bit that a call has no use for is 0. Of the numbers, a
- * reply or a byte to send has 8 bits. `saved` and `waiting` are the parts of a saved port.
+ * reply or a byte to send has 8 bits. Bits 0x1000000 to 0x8000000 are spare. `saved` and `waiting` are the parts of a
+ * saved port.
  */
 #ifndef SERIALPOST_RAW_H
 #define SERIALPOST_RAW_H
@@ -16,14 +17,22 @@ extern "C" {
 #endif
 
 enum {
-    SERIALPOST_WORD_NUMBER = 0xffff,     /* a reply, a byte to send, how many bytes; of a refused form the reason */
-    SERIALPOST_WORD_REFUSED = 0x10000,   /* refused: an input because the port is full */
-    SERIALPOST_WORD_SENDS = 0x20000,     /* the number is a byte to send */
-    SERIALPOST_WORD_REACHABLE = 0x40000, /* a run comes to the restored state */
-    SERIALPOST_WORD_RAISE = 0x1000000    /* one raise: from here on stands how many there are */
+    SERIALPOST_WORD_NUMBER = 0xffff,      /* a reply, a byte to send, how many bytes; of a refused form the reason */
+    SERIALPOST_WORD_REFUSED = 0x10000,    /* refused: an input because the port is full, a restore of too many bytes, an
+                                           * invalid access of the clock, a form */
+    SERIALPOST_WORD_SENDS = 0x20000,      /* the number is a byte to send */
+    SERIALPOST_WORD_REACHABLE = 0x40000,  /* a run comes to the restored state */
+    SERIALPOST_WORD_DATA_READ = 0x80000,  /* RBR was read, from an empty buffer too */
+    SERIALPOST_WORD_DELIVERED = 0x100000, /* a byte that waited left with the reply */
+    SERIALPOST_WORD_NONE_LEFT = 0x200000, /* RBR was read, and no byte waits now */
+    SERIALPOST_WORD_LOOPED = 0x400000,    /* in loopback: the byte written waits */
+    SERIALPOST_WORD_DROPPED = 0x800000,   /* in loopback: there was no room for it */
+    SERIALPOST_WORD_RAISE = 0x10000000    /* one raise: from here on stands how many there are */
 };
 
 struct serialpost_clock;
+struct serialpost_serial_counters;
+struct serialpost_clock_counters;
 
 uint32_t serialpost_raw_version(void);
 
@@ -52,6 +61,13 @@ void serialpost_raw_clock_save(const struct serialpost_clock *clock, struct seri
 uint32_t serialpost_raw_clock_restore(struct serialpost_clock *clock, const struct serialpost_clock *saved);
 uint32_t serialpost_raw_clock_encode(const struct serialpost_clock *saved, uint8_t *form, uint64_t length);
 uint32_t serialpost_raw_clock_decode(const uint8_t *form, uint64_t length, struct serialpost_clock *saved);
+
+void serialpost_raw_serial_counters_init(struct serialpost_serial_counters *counters);
+void serialpost_raw_serial_count(struct serialpost_serial_counters *counters, uint32_t answer);
+void serialpost_raw_serial_lost(struct serialpost_serial_counters *counters);
+void serialpost_raw_clock_counters_init(struct serialpost_clock_counters *counters);
+void serialpost_raw_clock_count_read(struct serialpost_clock_counters *counters, uint32_t answer);
+void serialpost_raw_clock_count_write(struct serialpost_clock_counters *counters, uint32_t answer);
 
 uint8_t serialpost_raw_i8042_read(uint8_t offset);
 bool serialpost_raw_i8042_write(uint8_t offset, uint8_t value);

@@ -5,10 +5,11 @@
     lists.py check REPLAY FILE...      hold what REPLAY answers to the answers in each FILE
     lists.py original REPLAY FILE...   hold REPLAY, which is vm-superio or an account of it, to what each FILE says of it
 
-A line of a list is `access => answer`, or `access => answer | manual: answer` where the chip's manual would answer otherwise, or
-`access => answer | original: answer` where vm-superio does; `tell` takes a plain `access` too. Empty lines and lines that begin with `#` are for
-the reader. REPLAY is a program that speaks the replay format (docs/REPLAY.md), with its arguments if it has some. (The manual's answers are
-held to the chips' definitions, by proof: manual.py.) Exit status: 0 all as told, 1 some answer differs, 2 a list or REPLAY cannot be used.
+A line of a list is `access => answer`, or `access => answer | manual: answer` where the chip's manual would answer otherwise,
+or `access => answer | original: answer` where vm-superio does; `tell` takes a plain `access` too. Empty lines and lines that
+begin with `#` are for the reader. REPLAY is a program that speaks the replay format (docs/REPLAY.md), with its arguments if it
+has some. (The manual's answers are held to the chips' definitions, by proof: manual.py.) Exit status: 0 all as told, 1 some
+answer differs, 2 a list or REPLAY cannot be used.
 """
 import os
 import subprocess
@@ -94,9 +95,14 @@ def main(words):
     raise Trouble("usage: lists.py tell REPLAY FILE | lists.py check REPLAY FILE... | lists.py original REPLAY FILE...")
 
 
-if __name__ == "__main__":
+def program(name, main):
+    """Ends with what `main` makes of the program's arguments, or with 2 and the trouble that it met."""
     try:
         sys.exit(main(sys.argv[1:]))
     except Trouble as trouble:
-        print(f"lists.py: {trouble}", file=sys.stderr)
+        print(f"{name}: {trouble}", file=sys.stderr)
         sys.exit(2)
+
+
+if __name__ == "__main__":
+    program("lists.py", main)

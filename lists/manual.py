@@ -4,14 +4,16 @@
     manual.py            write the crate's generated files
     manual.py --check    say whether they are what the lists say; the last line is `manual: N passed, M failed`
 
-The column is what the chip of the manual, out of reset, answers to the accesses of the list: of `access => answer | manual: answer` the second,
-of `access => answer` the one that there is. A theorem for each list says that the chip, as crates/pc16550d, crates/pl031 and crates/i8042 define it,
-answers so. All lists of lists/differences are held to it, and every other list that has such a column; but not a list with a line `# The manual's
-answers are not proved: why`.
+The column is what the chip of the manual, out of reset, answers to the accesses of the list: of
+`access => answer | manual: answer` the second, of `access => answer` the one that there is. A theorem for each list says
+that the chip, as crates/pc16550d, crates/pl031 and crates/i8042 define it, answers so. All lists of lists/differences are
+held to it, and every other list that has such a column; but not a list with a line
+`# The manual's answers are not proved: why`.
 
-Beside the answers of docs/REPLAY.md the column knows `not said`, where the manual is silent, and `as before`, for a register that a reset leaves
-alone. A serial port's N is 1 where the interrupt pin rises at some moment of the access, else 0; `b T` is how many bytes come. `room`, `state` and
-`save` ask the device: there is nothing like them on a chip, and they have no column. A clock's `w` has no answer, and `now` lets the seconds pass.
+Beside the answers of docs/REPLAY.md the column knows `not said`, where the manual is silent, and `as before`, for a register
+that a reset leaves alone. A serial port's N is 1 where the interrupt pin rises at some moment of the access, else 0; `b T` is
+how many bytes come. `room`, `state`, `save` and `counters` ask the device, `lost` tells it of the host's sink: there is nothing
+like them on a chip, and they have no column. A clock's `w` has no answer, and `now` lets the seconds pass.
 
 Exit status: 0 done, or all as told; 1 some file differs; 2 a list cannot be used.
 """
@@ -21,15 +23,15 @@ import re
 import sys
 
 sys.dont_write_bytecode = True
-from lists import Trouble, parsed
+from lists import Trouble, parsed, program
 
 ROOT = os.path.dirname(os.path.dirname(os.path.abspath(__file__)))
 CRATE = "crates/manual_lists"
 UNPROVED = "# The manual's answers are not proved: "
 # Lists in which firmware has started the manual's clock, and set it to the host's time, when that is first told.
 STARTED = ["lists/guests/linux-clock-alarm.list", "lists/guests/linux-clock-start.list"]
-# What the host asks of the device; and the write of a clock's word, which a chip does not answer either.
-ASKED = re.compile(r"room|state|save")
+# What the host asks of the device, and tells it of its sink; and the write of a clock's word, which a chip does not answer either.
+ASKED = re.compile(r"room|state|save|counters|lost")
 UNANSWERED = re.compile(ASKED.pattern + r"|w .{4} .{8}")
 HEAD = "-- Written by lists/manual.py from the lists: change these.\n"
 KEPT = {"00": "line .dll", "01": "line .dlm", "07": "scr"}
@@ -76,7 +78,8 @@ DEVICES = {
     "serial": (
         SERIAL,
         "Serial",
-        "use Rattle.pc16550d.specs.Chip.{read}\nuse Rattle.manual_lists.specs.Serial.{Line, serial, kept, level, r, r?, w, sends, b}\n",
+        "use Rattle.pc16550d.specs.Chip.{read}\n"
+        "use Rattle.manual_lists.specs.Serial.{Line, serial, kept, level, r, r?, w, sends, b}\n",
         "use Rattle.pc16550d.specs.Chip.{Chip}\nuse Rattle.pc16550d.proofs.Computing.{computing}\n",
         "(c : Chip) → ",
         "c ",
@@ -164,7 +167,8 @@ def files():
     for device, (_, module, defining, proving, premises, arguments, unfolded) in DEVICES.items():
         told = HEAD + "use mathlib.Core.List.{List, [], _∷_}\n" + defining
         proved = HEAD + "use mathlib.Core.Path.{refl}\n" + proving
-        proved += f"use Rattle.manual_lists.specs.{module}.{{AsTold}}\nuse Rattle.manual_lists.specs.{module}Lists as lists\n"
+        proved += f"use Rattle.manual_lists.specs.{module}.{{AsTold}}\n"
+        proved += f"use Rattle.manual_lists.specs.{module}Lists as lists\n"
         for name, (path, lines) in lists[device].items():
             told += f"\n-- {path}\nabbrev pub {name} : List Line\n{name} =\n    " + "\n    ∷ ".join(lines) + "\n    ∷ []\n"
             proved += f"\npub {name} : {premises}AsTold {arguments}lists.{name}\nunfolding {unfolded}\n{name} {arguments}= refl\n"
@@ -200,8 +204,4 @@ def main(words):
 
 
 if __name__ == "__main__":
-    try:
-        sys.exit(main(sys.argv[1:]))
-    except Trouble as trouble:
-        print(f"manual.py: {trouble}", file=sys.stderr)
-        sys.exit(2)
+    program("manual.py", main)

@@ -117,7 +117,8 @@ def does_the_gate_distrust_silence():
 
 def gate_fails(first, then):
     """How many of its stages the gate counts as failed."""
-    results = silently(loaded("gate").run_all, [shell(command) for command in first], [[shell(command) for command in rank] for rank in then])
+    ranks = [[shell(command) for command in rank] for rank in [first, *then]]
+    results = silently(loaded("gate").run_all, ranks[0], ranks[1:])
     return sum(failed > 0 for _, (_, failed, _) in results)
 
 

@@ -55,9 +55,24 @@ pub struct ClockState {
     pub raw: u32,
 }
 
+/// How often, since the device was named: RBR was read, a byte was sent, a sent byte was lost, and a read of
+/// RBR left no byte waiting.
+pub type PortCounters = [usize; 4];
+
+/// How often, since the device was named, a read was invalid, and a write.
+pub type ClockCounters = [usize; 2];
+
 pub trait Serial {
     /// Answers the byte sent, if one was.
     fn write(&mut self, offset: u8, value: u8) -> (Option<u8>, Raised);
+    /// A write to which `lost` comes next: if it sends a byte, that is the one. Only a device whose own
+    /// sink can fail need know beforehand.
+    fn write_to_lose(&mut self, offset: u8, value: u8) -> (Option<u8>, Raised) {
+        self.write(offset, value)
+    }
+    /// The host says that the sink did not take the byte that was sent last.
+    fn lost(&mut self);
+    fn counters(&self) -> PortCounters;
     fn read(&mut self, offset: u8) -> (u8, Raised);
     /// Answers how many of the bytes were taken, or none if they were refused because the buffer is full.
     fn input(&mut self, bytes: &[u8]) -> (Option<usize>, Raised);
@@ -80,6 +95,7 @@ pub trait Serial {
 pub trait Clock {
     fn write(&mut self, now: u64, offset: u16, data: &[u8; 4]) -> bool;
     fn read(&mut self, now: u64, offset: u16, data: &mut [u8; 4]) -> bool;
+    fn counters(&self) -> ClockCounters;
     fn state(&self) -> ClockState;
     fn restore(&mut self, state: &ClockState);
     /// As for the port.

@@ -8,7 +8,7 @@ use crate::answerer::{lines, Answerer};
 use crate::command_line::Trouble;
 use crate::format::{asking_lines, is_passed_over, is_start};
 use crate::rows::Sides;
-use crate::shrink::{shrink, Line};
+use crate::shrink::{cut_behind, shrink, Line};
 
 pub struct Pair {
     pub left: Answerer,
@@ -36,7 +36,8 @@ impl Pair {
         let Some((place, why)) = self.first_fault(list, &answers) else {
             return Ok(None);
         };
-        let asked: Vec<Line> = asking_lines(list).take(place + 1).map(Line::from).collect();
+        let mut asked: Vec<Line> = asking_lines(list).take(place + 2).map(Line::from).collect();
+        cut_behind(&mut asked, place);
         let (run, shown) = match self.shortest(&asked) {
             Some(run) => {
                 let list = run.join(&b'\n');

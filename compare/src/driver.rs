@@ -47,17 +47,32 @@ impl<D: Devices> Driver<D> {
         }
     }
 
+    /// The counters of the current device, if it has some.
+    pub fn counters(&self) -> Option<Vec<usize>> {
+        match &self.current {
+            Current::Serial(port) => Some(port.counters().to_vec()),
+            Current::Clock(clock, _) => Some(clock.counters().to_vec()),
+            _ => None,
+        }
+    }
+
     /// Answers a line that is not to be passed over. The answer ends as a line does.
     pub fn answer(&mut self, line: &[u8]) -> Vec<u8> {
+        self.answer_before(line, b"")
+    }
+
+    /// The same, where it is known which line will be answered next.
+    pub fn answer_before(&mut self, line: &[u8], next: &[u8]) -> Vec<u8> {
         let operation = format::parse(line);
-        let answer = operation.and_then(|operation| self.perform(&operation));
+        let is_lost = next == b"lost";
+        let answer = operation.and_then(|operation| self.perform(&operation, is_lost));
         let mut answer = answer.unwrap_or(Words(b"?".to_vec())).0;
         answer.push(b'\n');
         answer
     }
 
-    /// Performs an operation, if it speaks to the current device.
-    fn perform(&mut self, operation: &Operation) -> Option<Words> {
+    /// Performs an operation, if it speaks to the current device. A byte that it sends may be lost next.
+    fn perform(&mut self, operation: &Operation, is_lost: bool) -> Option<Words> {
         if let Start(device) = operation {
             self.current = match device {
                 Device::Serial => Current::Serial(self.devices.serial()),
@@ -68,7 +83,9 @@ impl<D: Devices> Driver<D> {
         }
         match &mut self.current {
             Current::None => None,
-            Current::Serial(port) => on_serial(&mut **port, &mut self.kept_port, operation),
+            Current::Serial(port) => {
+                on_serial(&mut **port, &mut self.kept_port, operation, is_lost)
+            }
             Current::Clock(clock, now) => {
                 on_clock(&mut **clock, now, &mut self.kept_clock, operation)
             }
@@ -81,12 +98,15 @@ fn on_serial(
     port: &mut dyn Serial,
     kept: &mut Option<SerialState>,
     asked: &Operation,
+    is_lost: bool,
 ) -> Option<Words> {
+    let written = |(sent, raised)| match sent {
+        Some(sent) => Words::start("w").hex(&[sent]).number(raised),
+        None => Words::start("w --").number(raised),
+    };
     Some(match asked {
-        WriteByte(offset, value) => match port.write(*offset, *value) {
-            (Some(sent), raised) => Words::start("w").hex(&[sent]).number(raised),
-            (None, raised) => Words::start("w --").number(raised),
-        },
+        WriteByte(offset, value) if is_lost => written(port.write_to_lose(*offset, *value)),
+        WriteByte(offset, value) => written(port.write(*offset, *value)),
         ReadByte(offset) => {
             let (value, raised) = port.read(*offset);
             Words::start("r").hex(&[value]).number(raised)
@@ -97,6 +117,11 @@ fn on_serial(
         },
         Room => Words::start("room").number(port.room()),
         Line => Words::start("line").number(usize::from(port.line()?)),
+        Lost => {
+            port.lost();
+            Words::start("lost")
+        }
+        Counters => Words::start("counters").numbers(&port.counters()),
         State => port_state("state", &port.state()),
         Save => port_state("save", kept.insert(port.state())),
         Restore => restore_port(port, kept.as_ref()?),
@@ -141,6 +166,7 @@ fn on_clock(
             let is_valid = clock.read(*now, *offset, &mut data);
             Words::start("r").hex(&data).word(valid(is_valid))
         }
+        Counters => Words::start("counters").numbers(&clock.counters()),
         State => Words::start("state").clock(&clock.state()),
         Save => Words::start("save").clock(kept.insert(clock.state())),
         Restore => restore_clock(clock, kept.as_ref()?),
@@ -163,20 +189,63 @@ fn on_i8042(controller: &mut dyn I8042, asked: &Operation) -> Option<Words> {
     })
 }
 
-/// Answers a whole list from standard input on standard output.
+/// Standard input and output.
+struct Talk {
+    input: io::BufReader<io::StdinLock<'static>>,
+    output: io::BufWriter<io::StdoutLock<'static>>,
+}
+
+impl Talk {
+    fn new() -> Self {
+        const BUFFER: usize = 1 << 16;
+        Talk {
+            input: io::BufReader::with_capacity(BUFFER, io::stdin().lock()),
+            output: io::BufWriter::with_capacity(BUFFER, io::stdout().lock()),
+        }
+    }
+
+    /// Reads on to the next line that gets an answer, and answers whether there is one. Before it waits for a line,
+    /// all answers so far are written.
+    fn read_on(&mut self, line: &mut Vec<u8>) -> io::Result<bool> {
+        loop {
+            line.clear();
+            if !self.input.buffer().contains(&b'\n') {
+                self.output.flush()?;
+            }
+            if self.input.read_until(b'\n', line)? == 0 {
+                return Ok(false);
+            }
+            if line.last() == Some(&b'\n') {
+                line.pop();
+            }
+            if !format::is_passed_over(line) {
+                return Ok(true);
+            }
+        }
+    }
+}
+
+/// Answers a whole list from standard input on standard output, each line before it waits for the next.
 pub fn serve(devices: impl Devices) -> io::Result<()> {
-    let mut input = io::stdin().lock();
-    let mut output = io::BufWriter::with_capacity(1 << 16, io::stdout().lock());
+    let mut talk = Talk::new();
     let mut driver = Driver::new(devices);
     let mut line = Vec::new();
-    while input.read_until(b'\n', &mut line)? > 0 {
-        if line.last() == Some(&b'\n') {
-            line.pop();
-        }
-        if !format::is_passed_over(&line) {
-            output.write_all(&driver.answer(&line))?;
-        }
-        line.clear();
+    while talk.read_on(&mut line)? {
+        talk.output.write_all(&driver.answer(&line))?;
     }
-    output.flush()
+    talk.output.flush()
+}
+
+/// The same for devices whose own sink can fail: each line is answered when the next one is known.
+pub fn serve_ahead(devices: impl Devices) -> io::Result<()> {
+    let mut talk = Talk::new();
+    let mut driver = Driver::new(devices);
+    let [mut line, mut next] = [Vec::new(), Vec::new()];
+    let mut goes_on = talk.read_on(&mut line)?;
+    while goes_on {
+        goes_on = talk.read_on(&mut next)?;
+        talk.output.write_all(&driver.answer_before(&line, &next))?;
+        std::mem::swap(&mut line, &mut next);
+    }
+    talk.output.flush()
 }

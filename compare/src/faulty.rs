@@ -1,5 +1,5 @@
 //! The account with one fault planted in it, to see that the judge finds it. What the account answers to
-//! a line, or the state that it leaves the device in, is changed for the worse.
+//! a line, the state that it leaves the device in, or what it counts, is changed for the worse.
 
 use crate::account::ours::is_active;
 use crate::account::serial::{
@@ -18,7 +18,7 @@ const I8042: Option<Device> = Some(Device::I8042);
 /// name it is asked for by, and what is wrong. A name that is misspelled below plants nothing, and the
 /// tests that look for the fault fail.
 #[rustfmt::skip]
-pub const FAULTS: [(Option<Device>, &str, &str); 40] = [
+pub const FAULTS: [(Option<Device>, &str, &str); 53] = [
     (SERIAL, "byte-65-replaces", "in loopback a byte that finds no room takes the place of the last one"),
     (SERIAL, "data-ready-stays", "LSR says that data is ready after the last byte was read"),
     (SERIAL, "data-ready-goes-early", "LSR says that no data is ready while bytes wait"),
@@ -47,6 +47,16 @@ pub const FAULTS: [(Option<Device>, &str, &str); 40] = [
     (SERIAL, "refusal-changes", "a state that is refused changes the scratch register"),
     (SERIAL, "reached-without-byte", "received data may be marked though no byte waits"),
     (SERIAL, "reached-disabled", "the transmitter may be marked though it is not enabled"),
+    (SERIAL, "empty-read-not-counted", "a read of RBR that finds no byte is not counted"),
+    (SERIAL, "stays-empty-not-counted", "a read of RBR that finds no byte does not count as one that leaves none"),
+    (SERIAL, "last-of-two-not-counted", "that no byte is left is not counted where the read before left one"),
+    (SERIAL, "divisor-read-counted", "a read of the divisor counts as one of RBR"),
+    (SERIAL, "loop-counted-sent", "a byte written in loopback counts as sent"),
+    (SERIAL, "lost-counted-twice", "a lost byte is counted twice"),
+    (SERIAL, "lost-not-sent", "a lost byte does not count as sent"),
+    (SERIAL, "lost-not-believed", "a lost byte is not counted where none was sent"),
+    (SERIAL, "restore-forgets-counters", "a port that is brought back counts from 0"),
+    (SERIAL, "fresh-port-counts-on", "a fresh port counts on from the one before"),
     (CLOCK, "sum-wraps", "a time that does not fit 32 bits wraps around"),
     (CLOCK, "clear-read-zeroes", "a read of 0x1c writes zeros into the caller's bytes"),
     (CLOCK, "identity-unaligned", "identity bytes answer at multiples of four only"),
@@ -54,6 +64,9 @@ pub const FAULTS: [(Option<Device>, &str, &str); 40] = [
     (CLOCK, "restore-cuts-offset", "of an offset 33 bits are brought back"),
     (CLOCK, "restore-clears-status", "the raw status is not brought back"),
     (CLOCK, "reached-too-far", "a clock may be 2^32 seconds behind its load register"),
+    (CLOCK, "invalid-write-counted-read", "an invalid write counts as an invalid read"),
+    (CLOCK, "restore-forgets-invalid", "a clock that is brought back counts from 0"),
+    (CLOCK, "fresh-clock-counts-on", "a fresh clock counts on from the one before"),
     (I8042, "resets-on-ff", "0xff at offset 4 resets the machine too"),
     (I8042, "resets-on-data-port", "0xfe at offset 0 resets the machine too"),
     (None, "reads-upper-case", "letters of a line may be upper-case"),
@@ -67,27 +80,120 @@ pub fn answers(fault: &str, mut list: Vec<u8>) -> Vec<u8> {
         list.make_ascii_lowercase();
     }
     let mut driver = Driver::new(Account::Ours);
+    let mut miscount = Miscount::default();
     let mut answers = Vec::new();
     for line in asking_lines(&list) {
         if fault == "fresh-forgets-kept" && is_start(line) {
             driver = Driver::new(Account::Ours);
         }
         let before = driver.port();
+        let counted = miscount.shown(&driver);
         let answer = driver.answer(line);
         answers.extend(match parse(line) {
             Some(asked) if answer != b"?\n" => {
                 let answer = String::from_utf8_lossy(&answer).into_owned();
-                let answered = Answered {
+                let mut answered = Answered {
                     fault,
                     asked,
                     answer,
                 };
+                miscount.go_on(&answered, &driver, before.as_ref(), &counted);
+                if answered.asked == Counters {
+                    let shown = miscount.shown(&driver);
+                    let shown = shown.iter().map(isize::to_string).collect::<Vec<_>>();
+                    answered.says(&format!("counters {}", shown.join(" ")));
+                }
                 answered.spoiled(&mut driver, before).into_bytes()
             }
             _ => answer,
         });
     }
     answers
+}
+
+/// How much more is shown than was counted, or less.
+#[derive(Default)]
+struct Miscount {
+    more: [isize; 4],
+    /// Whether the last read of RBR left one byte.
+    left_one: bool,
+}
+
+impl Miscount {
+    /// The counters as they are shown.
+    fn shown(&self, driver: &Driver<Account>) -> Vec<isize> {
+        let counted = driver.counters().unwrap_or_default();
+        let shown = counted.iter().zip(self.more);
+        shown
+            .map(|(&counted, more)| counted as isize + more)
+            .collect()
+    }
+
+    /// Shows these.
+    fn show(&mut self, driver: &Driver<Account>, shown: &[isize]) {
+        let counted = driver.counters().unwrap_or_default();
+        for (place, counted) in counted.into_iter().enumerate() {
+            self.more[place] = shown[place] - counted as isize;
+        }
+    }
+
+    /// Goes on by a line that was answered. Before it the port was so, and these counters were shown.
+    fn go_on(
+        &mut self,
+        done: &Answered,
+        driver: &Driver<Account>,
+        before: Option<&SerialState>,
+        counted: &[isize],
+    ) {
+        let is_port = driver.port().is_some();
+        let of_device = |port, clock| done.fault == if is_port { port } else { clock };
+        match &done.asked {
+            Start(_) => {
+                let same = driver
+                    .counters()
+                    .is_some_and(|fresh| fresh.len() == counted.len());
+                *self = Miscount::default();
+                if same && of_device("fresh-port-counts-on", "fresh-clock-counts-on") {
+                    self.show(driver, counted);
+                }
+            }
+            asked if asked.brings_back() && done.answer != "restore full\n" => {
+                if of_device("restore-forgets-counters", "restore-forgets-invalid") {
+                    self.show(driver, &[0; 4]);
+                }
+            }
+            WriteWord(..) if done.answer == "w invalid\n" => {
+                if done.fault == "invalid-write-counted-read" {
+                    self.more[0] += 1;
+                    self.more[1] -= 1;
+                }
+            }
+            asked => {
+                if let Some(port) = before {
+                    self.on_port(done.fault, asked, port, counted);
+                }
+            }
+        }
+    }
+
+    fn on_port(&mut self, fault: &str, asked: &Operation, port: &SerialState, counted: &[isize]) {
+        let [fetched, sent, lost, emptied] = &mut self.more;
+        let is_data = !port.divisor_is_open();
+        match (fault, asked) {
+            ("empty-read-not-counted", ReadByte(0)) if is_data && !port.waits() => *fetched -= 1,
+            ("stays-empty-not-counted", ReadByte(0)) if is_data && !port.waits() => *emptied -= 1,
+            ("last-of-two-not-counted", ReadByte(0)) if is_data => {
+                *emptied -= isize::from(self.left_one && port.buffer.len() == 1);
+                self.left_one = port.buffer.len() == 2;
+            }
+            ("divisor-read-counted", ReadByte(0)) if !is_data => *fetched += 1,
+            ("loop-counted-sent", WriteByte(0, _)) if is_data && port.loops() => *sent += 1,
+            ("lost-counted-twice", Lost) => *lost += 1,
+            ("lost-not-sent", Lost) if counted[1] > 0 => *sent -= 1,
+            ("lost-not-believed", Lost) if counted[1] == 0 => *lost -= 1,
+            _ => {}
+        }
+    }
 }
 
 /// A line that was answered.

@@ -24,9 +24,9 @@ impl Device {
     }
 }
 
-/// What a line asks for. Which device it speaks to follows from its shape, but for `State`, `Save` and
-/// `Restore` of what was saved last, which two devices have, and for single bytes, which are the serial
-/// port's or the reset controller's. An offset comes first, then what is written or held there.
+/// What a line asks for. Which device it speaks to follows from its shape, but for `State`, `Save`,
+/// `Counters` and `Restore` of what was saved last, which two devices have, and for single bytes, which are
+/// the serial port's or the reset controller's. An offset comes first, then what is written or held there.
 #[derive(Clone, Debug, PartialEq, Eq)]
 pub enum Operation {
     Start(Device),
@@ -35,6 +35,8 @@ pub enum Operation {
     Input(Vec<u8>),
     Room,
     Line,
+    Lost,
+    Counters,
     State,
     Save,
     Restore,
@@ -86,6 +88,8 @@ pub fn parse(line: &[u8]) -> Option<Operation> {
         [b"i8042"] => Start(Device::I8042),
         [b"room"] => Room,
         [b"line"] => Line,
+        [b"lost"] => Lost,
+        [b"counters"] => Counters,
         [b"state"] => State,
         [b"save"] => Save,
         [b"now", time] => Now(decimal(time)?),
@@ -198,6 +202,12 @@ impl Words {
         words
     }
 
+    pub fn numbers(self, numbers: &[usize]) -> Self {
+        numbers
+            .iter()
+            .fold(self, |words, &number| words.number(number))
+    }
+
     pub fn registers(self, state: &SerialState) -> Self {
         let registers = state.registers.iter();
         registers.fold(self, |words, register| words.hex(&[*register]))
@@ -235,6 +245,7 @@ mod tests {
             malformed::LINES,
             malformed::SAVES,
             malformed::ABOUT_THE_LINE,
+            malformed::ABOUT_COUNTERS,
         ] {
             for line in lines {
                 assert_eq!(parse(line), None, "{}", line.escape_ascii());

@@ -19,11 +19,19 @@ pub fn shrink(run: Vec<Line>, differs: &mut dyn FnMut(&[Line]) -> Option<usize>)
     loop {
         let before = shrinker.run.clone();
         shrinker.cut();
+        shrinker.ask_earlier();
+        shrinker.fewer_bytes();
         shrinker.input_at_once();
         if shrinker.run == before {
             return before;
         }
     }
+}
+
+/// Cuts off what follows a place. A `lost` stays with the line before it, which may depend on it.
+pub fn cut_behind(run: &mut Vec<Line>, place: usize) {
+    let is_lost = run.get(place + 1).is_some_and(|next| next == b"lost");
+    run.truncate(place + 1 + usize::from(is_lost));
 }
 
 struct Shrinker<'a> {
@@ -42,7 +50,7 @@ impl Shrinker<'_> {
         let Some(place) = (self.differs)(&run) else {
             return false;
         };
-        run.truncate(place + 1);
+        cut_behind(&mut run, place);
         self.run = run;
         true
     }
@@ -64,6 +72,39 @@ impl Shrinker<'_> {
                 return;
             }
             size = size.div_ceil(2);
+        }
+    }
+
+    /// What is seen at the end may long have stood in the state, or in the counters.
+    fn ask_earlier(&mut self) {
+        for question in ["state", "counters"] {
+            let (mut least, mut most) = (0, self.run.len().saturating_sub(1));
+            while least < most {
+                let length = (least + most) / 2;
+                let mut shorter = self.run[..length].to_vec();
+                shorter.push(Line::from(question));
+                match self.try_run(shorter) {
+                    true => most = length.min(self.run.len() - 1),
+                    false => least = length + 1,
+                }
+            }
+        }
+    }
+
+    /// Tries each input, and each state that is brought back, with one byte or two.
+    fn fewer_bytes(&mut self) {
+        for (place, bytes) in (0..self.run.len()).flat_map(|place| [(place, 1), (place, 2)]) {
+            let mut shorter = self.run.clone();
+            let Some(line) = shorter.get_mut(place) else {
+                return;
+            };
+            let digits = line.iter().rposition(|&byte| byte == b' ');
+            let length = digits.map_or(line.len(), |space| space + 1 + 2 * bytes);
+            let has_bytes = line.starts_with(b"b ") || line.starts_with(b"restore ");
+            if has_bytes && line.len() > length {
+                line.truncate(length);
+                self.try_run(shorter);
+            }
         }
     }
 
@@ -110,6 +151,39 @@ mod tests {
             run.contains(&expected[0]) && run.ends_with(&expected[1..])
         });
         assert_eq!(found.as_bytes(), expected.join(&b'\n'));
+    }
+
+    #[test]
+    fn a_question_is_asked_as_early_as_it_shows_the_difference() {
+        let text = format!("serial\nb 21\n{}", "r 00\n".repeat(40));
+        let found = shrunk(&text, |run| {
+            let reads = run.iter().filter(|line| *line == b"r 00").count();
+            run.contains(&Line::from("b 21"))
+                && (reads == 40 || run.ends_with(&[Line::from("state")]))
+        });
+        assert_eq!(found, "b 21\nstate");
+    }
+
+    #[test]
+    fn an_input_has_as_few_bytes_as_show_the_difference() {
+        let found = shrunk("serial\nb 61626364\nr 00\nr 00\nr 00\nr 00", |run| {
+            run.iter().filter(|line| *line == b"r 00").count() > 1
+                && run.iter().any(|line| line.starts_with(b"b 6162"))
+        });
+        assert_eq!(found, "b 6162\nr 00\nr 00");
+    }
+
+    #[test]
+    fn a_loss_stays_with_the_write_before_it() {
+        let run = "serial\nr 05\nw 00 55\nlost\nr 05\nlost"
+            .lines()
+            .map(Line::from);
+        // The write differs, and only where its byte is lost.
+        let found = shrink(run.collect(), &mut |run| {
+            run.windows(2)
+                .position(|lines| lines[0] == b"w 00 55" && lines[1] == b"lost")
+        });
+        assert_eq!(found, ["w 00 55", "lost"].map(Line::from));
     }
 
     #[test]

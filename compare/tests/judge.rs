@@ -3,7 +3,10 @@
 
 use std::collections::{HashMap, HashSet};
 use std::fs;
-use std::process::{Command, Output};
+use std::io::{BufRead, BufReader, Write};
+use std::process::{Command, Output, Stdio};
+use std::sync::mpsc;
+use std::thread;
 use std::time::Duration;
 
 use judge::answerer::{tools, Answerer};
@@ -72,7 +75,7 @@ fn is_found_in(list: &[u8], fault: &str) {
 
 #[test]
 fn a_random_list_finds_every_planted_fault() {
-    let list = random::list(&Options::default(), 30_000, 1);
+    let list = random::list(&Options::default(), 40_000, 1);
     assert!(difference("account", "account", &list).is_none());
     for (_, fault, _) in FAULTS {
         is_found_in(&list, fault);
@@ -105,7 +108,13 @@ fn beside_the_original_a_fault_is_a_difference_in_no_row_or_none_in_a_row() {
             "{shown}"
         );
     }
-    let list = random::list(&Options::default(), 30_000, 1);
+    let asked = b"serial\nr 00\ncounters\n";
+    let miscounted = "faulty empty-read-not-counted";
+    let shown = found("account --original", miscounted, true, asked)
+        .unwrap()
+        .shown;
+    assert!(shown.ends_with("(different in no row)\n"), "{shown}");
+    let list = random::list(&Options::default(), 40_000, 1);
     let beside = |right: &str| found("account --original", right, true, &list);
     assert!(beside("account").is_none());
     for (_, fault, _) in FAULTS {
@@ -131,7 +140,7 @@ fn rows_met(list: &[u8]) -> HashMap<Vec<&'static str>, usize> {
 
 #[test]
 fn each_row_is_met_and_has_a_list_that_shows_it() {
-    let met = rows_met(&random::list(&Options::default(), 100_000, 1));
+    let met = rows_met(&random::list(&Options::default(), 300_000, 1));
     let rows: HashSet<&str> = met.keys().flatten().copied().collect();
     let folder = tools().unwrap().join("../../lists/original");
     assert_eq!(rows.len(), fs::read_dir(&folder).unwrap().count());
@@ -268,4 +277,29 @@ fn a_list_without_questions_has_no_answers() {
         assert!(difference("account", "cat /dev/null", text).is_none());
         assert!(difference("account", "account", text).is_none());
     }
+}
+
+/// Somebody who types sees each answer before the next line.
+#[test]
+fn the_account_answers_each_line_as_it_comes() {
+    let mut account = Command::new(tools().unwrap().join("account"))
+        .stdin(Stdio::piped())
+        .stdout(Stdio::piped())
+        .spawn()
+        .unwrap();
+    let mut input = account.stdin.take().unwrap();
+    let mut lines = BufReader::new(account.stdout.take().unwrap()).lines();
+    let (sender, answers) = mpsc::channel();
+    thread::spawn(move || lines.try_for_each(|line| sender.send(line.unwrap())));
+    for (asked, answer) in [
+        ("serial\n# a port\n\n", "serial"),
+        ("w 00 41\n", "w 41 0"),
+        ("lost\ncoun", "lost"),
+        ("ters\n", "counters 0 1 1 0"),
+    ] {
+        input.write_all(asked.as_bytes()).unwrap();
+        assert_eq!(answers.recv_timeout(LIMIT).as_deref(), Ok(answer));
+    }
+    drop(input);
+    assert!(account.wait().unwrap().success());
 }

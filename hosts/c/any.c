@@ -94,12 +94,37 @@ static uint8_t any_offset(void)
     return (uint8_t)(once_in(4) ? any() : any() % 9);
 }
 
+/* Whether offset 0 is RBR and THR, and not the divisor's. */
+static bool is_data(const struct serialpost_serial *port, uint8_t offset)
+{
+    return offset == SERIALPOST_RBR && !(port->regs[SERIALPOST_LCR] & 0x80);
+}
+
+/* What the answer to a read says besides the reply. */
+static uint32_t told_of_read(const struct serialpost_serial *before, uint8_t offset)
+{
+    if (!is_data(before, offset))
+        return 0;
+    return SERIALPOST_WORD_DATA_READ | (before->pos[1] > 0 ? SERIALPOST_WORD_DELIVERED : 0)
+           | (before->pos[1] < 2 ? SERIALPOST_WORD_NONE_LEFT : 0);
+}
+
+/* What the answer to a write says besides the raises. */
+static uint32_t told_of_write(const struct serialpost_serial *before, uint8_t offset, uint8_t value)
+{
+    if (!is_data(before, offset))
+        return 0;
+    if (before->regs[SERIALPOST_MCR] & 0x10)
+        return before->pos[1] < 64 ? SERIALPOST_WORD_LOOPED : SERIALPOST_WORD_DROPPED;
+    return SERIALPOST_WORD_SENDS | value;
+}
+
 static void any_read(struct port port)
 {
     struct serialpost_serial before = copy(port);
     uint8_t offset = any_offset();
     uint32_t answer = serialpost_raw_serial_read(PARTS(&port), offset);
-    EXPECT(answer <= 0xff);
+    EXPECT(answer - (uint8_t)answer == told_of_read(&before, offset));
     uint8_t code = has_data(before.regs, before.pos) ? 0x04 : is_empty(before.regs) ? 0x02 : 0x01;
     EXPECT(offset != SERIALPOST_IIR || answer == (0xc0u | code));
     expect_raises(answer, port, &before);
@@ -114,8 +139,7 @@ static void any_write(struct port port)
     uint8_t value = (uint8_t)any();
     uint32_t answer = serialpost_raw_serial_write(PARTS(&port), offset, value);
     expect_raises(answer, port, &before);
-    uint32_t sent = answer % SERIALPOST_WORD_RAISE;
-    EXPECT(sent == 0 || sent == (uint32_t)(SERIALPOST_WORD_SENDS | value));
+    EXPECT(answer % SERIALPOST_WORD_RAISE == told_of_write(&before, offset, value));
     EXPECT(spares_kept(port, &before));
     EXPECT(offset < 8 || (answer == 0 && is(port, &before)));
 }
@@ -130,7 +154,7 @@ static void any_input(struct port port, struct fenced input)
     EXPECT(taken <= room && taken <= length);
     expect_raises(answer, port, &before);
     EXPECT(serialpost_raw_serial_room(port.pos) == room - taken);
-    EXPECT((answer & 0xff0000) == 0 || (room == 0 && answer == SERIALPOST_WORD_REFUSED));
+    EXPECT(answer % SERIALPOST_WORD_RAISE == taken || (room == 0 && answer == SERIALPOST_WORD_REFUSED));
     EXPECT(spares_kept(port, &before));
     EXPECT(taken > 0 || is(port, &before));
 }
@@ -365,6 +389,68 @@ static void any_saved_clock(bool at_end)
     EXPECT(reached > ROUNDS / 50 && reached < ROUNDS / 4);
 }
 
+/* ---- Counters */
+
+/* Often one of the last that a counter comes to. */
+static uint64_t any_count(void)
+{
+    return once_in(2) ? UINT64_MAX - any() % 3 : (uint64_t)any() << 32 | any();
+}
+
+static uint64_t counted(uint64_t count, bool happened)
+{
+    return count + (happened && count < UINT64_MAX);
+}
+
+static void any_serial_counters(bool at_end)
+{
+    struct serialpost_serial_counters *counters = lent(fence(at_end), sizeof *counters);
+    for (int round = 0; round < ROUNDS; round++) {
+        struct serialpost_serial_counters expected = { any_count(), any_count(), any_count(), any_count() };
+        *counters = expected;
+        uint32_t word = any();
+        if (once_in(4)) {
+            serialpost_raw_serial_lost(counters);
+            expected.lost = counted(expected.lost, true);
+        } else {
+            serialpost_raw_serial_count(counters, word);
+            expected.data_reads = counted(expected.data_reads, (word & SERIALPOST_WORD_DATA_READ) != 0);
+            expected.sent = counted(expected.sent, (word & SERIALPOST_WORD_SENDS) != 0);
+            expected.none_left = counted(expected.none_left, (word & SERIALPOST_WORD_NONE_LEFT) != 0);
+        }
+        EXPECT(memcmp(counters, &expected, sizeof expected) == 0);
+        if (once_in(100)) {
+            static const struct serialpost_serial_counters fresh;
+            serialpost_raw_serial_counters_init(counters);
+            EXPECT(memcmp(counters, &fresh, sizeof fresh) == 0);
+        }
+    }
+}
+
+static void any_clock_counters(bool at_end)
+{
+    struct serialpost_clock_counters *counters = lent(fence(at_end), sizeof *counters);
+    for (int round = 0; round < ROUNDS; round++) {
+        struct serialpost_clock_counters expected = { any_count(), any_count() };
+        *counters = expected;
+        uint32_t word = any();
+        bool refused = (word & SERIALPOST_WORD_REFUSED) != 0;
+        if (once_in(2)) {
+            serialpost_raw_clock_count_read(counters, word);
+            expected.invalid_reads = counted(expected.invalid_reads, refused);
+        } else {
+            serialpost_raw_clock_count_write(counters, word);
+            expected.invalid_writes = counted(expected.invalid_writes, refused);
+        }
+        EXPECT(memcmp(counters, &expected, sizeof expected) == 0);
+        if (once_in(100)) {
+            static const struct serialpost_clock_counters fresh;
+            serialpost_raw_clock_counters_init(counters);
+            EXPECT(memcmp(counters, &fresh, sizeof fresh) == 0);
+        }
+    }
+}
+
 int main(void)
 {
     for (int at_end = 0; at_end < 2; at_end++) {
@@ -372,6 +458,8 @@ int main(void)
         any_play(at_end);
         any_clock(at_end);
         any_saved_clock(at_end);
+        any_serial_counters(at_end);
+        any_clock_counters(at_end);
     }
     return 0;
 }

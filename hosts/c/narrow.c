@@ -1,5 +1,5 @@
 /*
- * Of an argument of 8 or 16 bits only these count: what lies above them in its register is up to the caller's compiler.
+ * Of an argument of 8, 16 or 32 bits only these count: what lies above them in its register is up to the caller's compiler.
  * Each function with such an argument is called by its typed call, and once more with 64 bits of which the upper ones
  * are random; both must answer and do the same. A bool that is answered has 8 bits, which must be 0 or 1; what lies
  * above them is the function's to leave, and no caller may look at it.
@@ -23,6 +23,9 @@ uint64_t whole_clock_read(const struct serialpost_clock *clock, uint64_t offset,
     WHOLE(clock_read);
 uint64_t whole_clock_write(struct serialpost_clock *clock, uint64_t offset, uint64_t time, const uint8_t *bytes)
     WHOLE(clock_write);
+void whole_serial_count(struct serialpost_serial_counters *counters, uint64_t answer) WHOLE(serial_count);
+void whole_clock_count_read(struct serialpost_clock_counters *counters, uint64_t answer) WHOLE(clock_count_read);
+void whole_clock_count_write(struct serialpost_clock_counters *counters, uint64_t answer) WHOLE(clock_count_write);
 uint64_t whole_i8042_read(uint64_t offset) WHOLE(i8042_read);
 uint64_t whole_i8042_write(uint64_t offset, uint64_t value) WHOLE(i8042_write);
 
@@ -52,10 +55,9 @@ static void serial_accesses(void)
     struct serialpost_serial port = any_port(), same = port;
     uint8_t offset = (uint8_t)(once_in(4) ? any() : any() % 9), value = (uint8_t)any();
     struct serialpost_written wrote = serialpost_serial_write(&port, offset, value);
-    EXPECT((uint32_t)whole_serial_write(PARTS(&same), any_above(8, offset), any_above(8, value))
-           == wrote.byte + (wrote.sends ? 0x20000 : 0) + wrote.raises * 0x1000000);
+    EXPECT((uint32_t)whole_serial_write(PARTS(&same), any_above(8, offset), any_above(8, value)) == wrote.word);
     struct serialpost_read read = serialpost_serial_read(&port, offset);
-    EXPECT((uint32_t)whole_serial_read(PARTS(&same), any_above(8, offset)) == read.reply + read.raises * 0x1000000);
+    EXPECT((uint32_t)whole_serial_read(PARTS(&same), any_above(8, offset)) == read.word);
     EXPECT(memcmp(&port, &same, sizeof port) == 0);
     EXPECT(is_bool(whole_serial_line(port.regs, port.pos), serialpost_serial_line(&port)));
 }
@@ -71,11 +73,6 @@ static void runs(void)
     EXPECT(is_bool(whole_serial_play(PARTS(&same), ops, sizeof ops, &input, 0, &answer, 1), played));
 }
 
-static bool is_access(uint64_t answer, struct serialpost_clock_access expected)
-{
-    return (uint32_t)answer == (expected.refused ? 0x10000 : 0) + expected.raises * 0x1000000;
-}
-
 static void clock_accesses(void)
 {
     struct serialpost_clock clock, same;
@@ -86,11 +83,26 @@ static void clock_accesses(void)
     memcpy(same_bytes, bytes, sizeof bytes);
     uint16_t offset = (uint16_t)(once_in(4) ? any() : once_in(4) ? 0xfe0 + any() % 32 : any() % 9 * 4);
     uint64_t time = (uint64_t)any() << 40 ^ any();
-    EXPECT(is_access(whole_clock_write(&same, any_above(16, offset), time, bytes),
-                     serialpost_clock_write(&clock, offset, time, bytes)));
-    EXPECT(is_access(whole_clock_read(&same, any_above(16, offset), time, same_bytes),
-                     serialpost_clock_read(&clock, offset, time, bytes)));
+    EXPECT((uint32_t)whole_clock_write(&same, any_above(16, offset), time, bytes)
+           == serialpost_clock_write(&clock, offset, time, bytes).word);
+    EXPECT((uint32_t)whole_clock_read(&same, any_above(16, offset), time, same_bytes)
+           == serialpost_clock_read(&clock, offset, time, bytes).word);
     EXPECT(memcmp(bytes, same_bytes, sizeof bytes) == 0 && memcmp(&clock, &same, sizeof clock) == 0);
+}
+
+static void counts(void)
+{
+    struct serialpost_serial_counters port = { any(), any(), any(), any() }, same_port = port;
+    struct serialpost_clock_counters clock = { any(), any() }, same_clock = clock;
+    uint32_t word = any();
+    serialpost_serial_count(&port, word);
+    whole_serial_count(&same_port, any_above(32, word));
+    EXPECT(memcmp(&port, &same_port, sizeof port) == 0);
+    serialpost_clock_count_read(&clock, word);
+    whole_clock_count_read(&same_clock, any_above(32, word));
+    serialpost_clock_count_write(&clock, word / 2);
+    whole_clock_count_write(&same_clock, any_above(32, word / 2));
+    EXPECT(memcmp(&clock, &same_clock, sizeof clock) == 0);
 }
 
 static void reset_accesses(void)
@@ -106,6 +118,7 @@ int main(void)
         serial_accesses();
         runs();
         clock_accesses();
+        counts();
         reset_accesses();
     }
     return 0;

@@ -6,6 +6,8 @@
 /* docs/PERFORMANCE.md says what a device takes. */
 _Static_assert(sizeof(struct serialpost_serial) == 1056, "a port");
 _Static_assert(sizeof(struct serialpost_clock) == 32, "a clock");
+_Static_assert(sizeof(struct serialpost_serial_counters) == 32, "a port's counters");
+_Static_assert(sizeof(struct serialpost_clock_counters) == 16, "a clock's counters");
 
 /* ---- The serial port as a host uses it */
 
@@ -269,7 +271,7 @@ static void a_port_is_kept_as_bytes(void)
     EXPECT(encoded.length == 0 && encoded.reason == SERIALPOST_SPARE);
 }
 
-/* ---- The clock and the reset controller */
+/* ---- The clock */
 
 static uint32_t clock_at(const struct serialpost_clock *clock, uint16_t offset, uint64_t time)
 {
@@ -387,6 +389,162 @@ static void a_clock_is_kept_as_bytes(void)
     EXPECT(encoded.length == 0 && encoded.reason == SERIALPOST_OFFSET && form[0] == 2);
 }
 
+/* ---- Counters */
+
+static bool port_counts(const struct serialpost_serial_counters *counters, uint64_t data_reads, uint64_t sent, uint64_t lost,
+                        uint64_t none_left)
+{
+    return counters->data_reads == data_reads && counters->sent == sent && counters->lost == lost
+           && counters->none_left == none_left;
+}
+
+static bool clock_counts(const struct serialpost_clock_counters *counters, uint64_t invalid_reads, uint64_t invalid_writes)
+{
+    return counters->invalid_reads == invalid_reads && counters->invalid_writes == invalid_writes;
+}
+
+/* The guest reads at an offset, and it is counted. */
+static struct serialpost_read counted_read(struct serialpost_serial *port, struct serialpost_serial_counters *counters,
+                                           uint8_t offset)
+{
+    struct serialpost_read answer = serialpost_serial_read(port, offset);
+    serialpost_serial_count(counters, answer.word);
+    return answer;
+}
+
+static struct serialpost_written counted_write(struct serialpost_serial *port, struct serialpost_serial_counters *counters,
+                                               uint8_t offset, uint8_t value)
+{
+    struct serialpost_written answer = serialpost_serial_write(port, offset, value);
+    serialpost_serial_count(counters, answer.word);
+    return answer;
+}
+
+static void reads_are_counted(void)
+{
+    struct serialpost_serial port = fresh_port();
+    struct serialpost_serial_counters counters;
+    memset(&counters, 0xa5, sizeof counters);
+    serialpost_serial_counters_init(&counters);
+    EXPECT(port_counts(&counters, 0, 0, 0, 0));
+
+    serialpost_serial_count(&counters, type_in(&port, "ab", 2).word);
+    EXPECT(port_counts(&counters, 0, 0, 0, 0));
+    struct serialpost_read first = counted_read(&port, &counters, SERIALPOST_RBR);
+    EXPECT(first.reply == 'a' && first.data_read && first.delivered && !first.none_left);
+    EXPECT(port_counts(&counters, 1, 0, 0, 0));
+    struct serialpost_read last = counted_read(&port, &counters, SERIALPOST_RBR);
+    EXPECT(last.reply == 'b' && last.data_read && last.delivered && last.none_left);
+    EXPECT(port_counts(&counters, 2, 0, 0, 1));
+    struct serialpost_read nothing = counted_read(&port, &counters, SERIALPOST_RBR);
+    EXPECT(nothing.reply == 0 && nothing.data_read && !nothing.delivered && nothing.none_left);
+    EXPECT(port_counts(&counters, 3, 0, 0, 2));
+
+    struct serialpost_read status = counted_read(&port, &counters, SERIALPOST_LSR);
+    EXPECT(!status.data_read && !status.delivered && !status.none_left);
+    counted_write(&port, &counters, SERIALPOST_LCR, 0x83);
+    struct serialpost_read divisor = counted_read(&port, &counters, 0);
+    EXPECT(divisor.reply == 0x0c && !divisor.data_read && !divisor.delivered && !divisor.none_left);
+    EXPECT(port_counts(&counters, 3, 0, 0, 2));
+}
+
+static void bytes_sent_and_lost_are_counted(void)
+{
+    struct serialpost_serial port = fresh_port();
+    struct serialpost_serial_counters counters;
+    serialpost_serial_counters_init(&counters);
+    struct serialpost_written sent = counted_write(&port, &counters, SERIALPOST_THR, 'x');
+    EXPECT(sent.sends && !sent.looped && !sent.dropped && port_counts(&counters, 0, 1, 0, 0));
+    counted_write(&port, &counters, SERIALPOST_THR, 'y');
+    serialpost_serial_lost(&counters);
+    EXPECT(port_counts(&counters, 0, 2, 1, 0));
+
+    counted_write(&port, &counters, SERIALPOST_MCR, 0x10);
+    for (int i = 0; i < SERIALPOST_SERIAL_CAPACITY; i++) {
+        struct serialpost_written looped = counted_write(&port, &counters, SERIALPOST_THR, 'z');
+        EXPECT(!looped.sends && looped.looped && !looped.dropped);
+    }
+    struct serialpost_written dropped = counted_write(&port, &counters, SERIALPOST_THR, 'z');
+    EXPECT(!dropped.sends && !dropped.looped && dropped.dropped);
+    EXPECT(port_counts(&counters, 0, 2, 1, 0));
+}
+
+/* Each as often as a port that is called for each operation. */
+static void a_run_is_counted(void)
+{
+    struct serialpost_serial port = fresh_port();
+    struct serialpost_serial_counters counters;
+    static const uint8_t ops[] = { 2, 2, 0, 0, 0, 0, 0, 0, 0, 0, 0, 0, 1, 0, 'x', 0, 5, 0, 3, 0, 0 };
+    uint32_t answers[7];
+    EXPECT(serialpost_serial_play(&port, ops, sizeof ops, (const uint8_t *)"ab", 2, answers, 7));
+    serialpost_serial_counters_init(&counters);
+    for (int i = 0; i < 7; i++)
+        serialpost_serial_count(&counters, answers[i]);
+    EXPECT(port_counts(&counters, 3, 1, 0, 2));
+}
+
+static void counters_stop_at_the_highest_number(void)
+{
+    struct serialpost_serial_counters port = { UINT64_MAX - 1, UINT64_MAX, UINT64_MAX - 1, UINT64_MAX };
+    for (int i = 0; i < 2; i++) {
+        serialpost_serial_count(&port, SERIALPOST_WORD_DATA_READ | SERIALPOST_WORD_SENDS | SERIALPOST_WORD_NONE_LEFT);
+        serialpost_serial_lost(&port);
+        EXPECT(port_counts(&port, UINT64_MAX, UINT64_MAX, UINT64_MAX, UINT64_MAX));
+    }
+    struct serialpost_serial_counters other = { UINT64_MAX, UINT64_MAX - 1, UINT64_MAX, UINT64_MAX - 1 };
+    serialpost_serial_count(&other, SERIALPOST_WORD_SENDS | SERIALPOST_WORD_NONE_LEFT);
+    EXPECT(port_counts(&other, UINT64_MAX, UINT64_MAX, UINT64_MAX, UINT64_MAX));
+
+    struct serialpost_clock_counters clock = { UINT64_MAX - 1, UINT64_MAX };
+    for (int i = 0; i < 2; i++) {
+        serialpost_clock_count_read(&clock, SERIALPOST_WORD_REFUSED);
+        serialpost_clock_count_write(&clock, SERIALPOST_WORD_REFUSED);
+        EXPECT(clock_counts(&clock, UINT64_MAX, UINT64_MAX));
+    }
+}
+
+/* Each bit of a word by itself moves the counter that is for it and no other. */
+static void each_bit_moves_its_counter(void)
+{
+    for (int i = 0; i < 32; i++) {
+        uint32_t bit = (uint32_t)1 << i;
+        struct serialpost_serial_counters port = { 10, 20, 30, 40 };
+        serialpost_serial_count(&port, bit);
+        EXPECT(port_counts(&port, bit == 0x80000 ? 11 : 10, bit == 0x20000 ? 21 : 20, 30, bit == 0x200000 ? 41 : 40));
+        serialpost_serial_count(&port, ~(uint32_t)0x2a0000);
+        EXPECT(port_counts(&port, bit == 0x80000 ? 11 : 10, bit == 0x20000 ? 21 : 20, 30, bit == 0x200000 ? 41 : 40));
+        struct serialpost_clock_counters clock = { 1, 5 };
+        serialpost_clock_count_read(&clock, bit);
+        EXPECT(clock_counts(&clock, bit == 0x10000 ? 2 : 1, 5));
+        serialpost_clock_count_write(&clock, bit);
+        EXPECT(clock_counts(&clock, bit == 0x10000 ? 2 : 1, bit == 0x10000 ? 6 : 5));
+    }
+    struct serialpost_serial_counters port = { 10, 20, 30, 40 };
+    serialpost_serial_lost(&port);
+    EXPECT(port_counts(&port, 10, 20, 31, 40));
+}
+
+static void invalid_accesses_of_the_clock_are_counted(void)
+{
+    struct serialpost_clock clock;
+    struct serialpost_clock_counters counters;
+    uint8_t bytes[4] = { 0 };
+    serialpost_clock_init(&clock);
+    memset(&counters, 0xa5, sizeof counters);
+    serialpost_clock_counters_init(&counters);
+    EXPECT(clock_counts(&counters, 0, 0));
+    serialpost_clock_count_read(&counters, serialpost_clock_read(&clock, SERIALPOST_RTCDR, 0, bytes).word);
+    serialpost_clock_count_write(&counters, serialpost_clock_write(&clock, SERIALPOST_RTCMR, 0, bytes).word);
+    EXPECT(clock_counts(&counters, 0, 0));
+    serialpost_clock_count_read(&counters, serialpost_clock_read(&clock, SERIALPOST_RTCICR, 0, bytes).word);
+    EXPECT(clock_counts(&counters, 1, 0));
+    serialpost_clock_count_write(&counters, serialpost_clock_write(&clock, SERIALPOST_RTCDR, 0, bytes).word);
+    serialpost_clock_count_write(&counters, serialpost_clock_write(&clock, 0xfe0, 0, bytes).word);
+    EXPECT(clock_counts(&counters, 1, 2));
+}
+
+/* ---- The reset controller */
+
 static void one_write_resets(void)
 {
     for (unsigned offset = 0; offset < 256; offset++)
@@ -418,6 +576,12 @@ int main(void)
     a_clock_moves_to_another_host();
     a_clock_that_no_run_comes_to_is_restored_and_told();
     a_clock_is_kept_as_bytes();
+    reads_are_counted();
+    bytes_sent_and_lost_are_counted();
+    a_run_is_counted();
+    counters_stop_at_the_highest_number();
+    each_bit_moves_its_counter();
+    invalid_accesses_of_the_clock_are_counted();
     one_write_resets();
     return 0;
 }

@@ -1,146 +1,181 @@
 //! Drives vm-superio and this crate through the same lists, by the judge's monitor, with the same faults of the host,
-//! and compares what each call returns and what it does to the host, in order. They differ exactly in the judge's rows:
-//! in what a read of IIR answers, and in how often the interrupt is raised.
+//! and compares what each call returns and its steps in order: what it does to the host, and the callbacks for events.
+//! They differ exactly in the judge's rows: in what a read of IIR answers, and in how often the interrupt is raised.
+//! Counters, which are made of the callbacks, are those of the judge's accounts.
+//! Then it sees that it finds faults that are planted in our steps.
 
 #[path = "../../compare/src/original/host.rs"]
 mod host;
+mod planted;
 
 mod original {
     use vm_superio as api;
     include!("../../compare/src/original/monitor.rs");
-    include!("clock_events.rs");
+    include!("../../compare/src/original/events.rs");
 }
 
 mod ours {
     use serialpost as api;
     include!("../../compare/src/original/monitor.rs");
-    include!("clock_events.rs");
+    include!("../../compare/src/original/events.rs");
 
     /// Whether the interrupt line of this port is high.
     pub fn is_high(port: &SerialState) -> bool {
         let [line, sink] = [0, 1].map(|_| Wire(Rc::default()));
-        let restored = api::Serial::from_state(&port_state(port), line, NoEvents, sink);
+        let restored =
+            api::Serial::from_state(&port_state(port), line, api::serial::NoEvents, sink);
         restored.is_ok_and(|port| port.interrupt_line())
     }
 }
 
-use std::collections::HashMap;
+use std::collections::BTreeMap;
 use std::process::ExitCode;
 use std::rc::Rc;
 
-use host::{Event, Faults, Host};
+use host::{raises_in, Callback, Faults, Host, Step};
 use judge::account::reached;
 use judge::driver::Driver;
 use judge::format::{self, Operation};
 use judge::generate::numbers::Numbers;
 use judge::generate::{exhaustive, random, Options};
 use judge::rows::{Sides, ROWS};
+use planted::Planted;
+
+impl Step {
+    pub fn name(&self) -> &'static str {
+        match self {
+            Step::Sent(_) => "write",
+            Step::Flushed => "flush",
+            Step::Raised => "raise",
+            Step::Told(Callback::BufferRead) => "BufferRead",
+            Step::Told(Callback::OutByte) => "OutByte",
+            Step::Told(Callback::TxLostByte) => "TxLostByte",
+            Step::Told(Callback::InBufferEmpty) => "InBufferEmpty",
+            Step::Told(Callback::InvalidRead) => "InvalidRead",
+            Step::Told(Callback::InvalidWrite) => "InvalidWrite",
+            Step::Full => "full",
+            Step::NotRaised(_) => "not raised",
+            Step::NotSent(_) => "not sent",
+        }
+    }
+}
 
 /// One operation in so many meets a fault of each kind.
 const FAULT_ONCE_IN: usize = 4;
 
-/// How often the lists met what they are to meet.
+/// How often something was met, by its name.
+type Times = BTreeMap<String, usize>;
+
+/// What the lists met.
 #[derive(Debug, Default)]
 struct Met {
     operations: usize,
-    sent: usize,
-    raised: usize,
-    full: usize,
-    not_raised: usize,
-    not_sent: usize,
-    /// Sink and line failed in one call.
-    neither: usize,
-    restores: Restores,
+    /// Accesses and inputs, and states that were to be brought back: each by the names of its steps.
+    calls: Times,
+    restores: Times,
+    rows: Times,
+    /// Answers with counters that have all counted something, by how many they are: a port has 4, a clock 2.
+    counters: BTreeMap<usize, usize>,
     reachable: usize,
     unreachable: usize,
-    rows: HashMap<&'static str, usize>,
 }
 
-/// What came of states that were to be brought back.
-#[derive(Debug, Default)]
-struct Restores {
-    done: usize,
-    raised_twice: usize,
-    refused: usize,
-    first_not_raised: usize,
-    second_not_raised: usize,
-}
+/// What calls are to meet.
+const CALLS: [&str; 18] = [
+    "full",
+    "raise",
+    "raise, raise",
+    "raise, not raised",
+    "write, flush, OutByte",
+    "write, flush, OutByte, raise",
+    "write, flush, OutByte, raise, not raised",
+    "write, TxLostByte, not sent",
+    "write, TxLostByte, raise, not sent",
+    "write, TxLostByte, raise, not raised",
+    "write, flush, TxLostByte, not sent",
+    "write, flush, TxLostByte, raise, not sent",
+    "write, flush, TxLostByte, raise, not raised",
+    "BufferRead",
+    "InBufferEmpty, BufferRead",
+    "InvalidRead",
+    "InvalidWrite",
+    "",
+];
 
-impl Restores {
-    fn note(&mut self, events: &[Event]) {
-        match events {
-            [Event::Full] => self.refused += 1,
-            [Event::Raised, Event::NotRaised(_)] => self.first_not_raised += 1,
-            [.., Event::NotRaised(_)] => self.second_not_raised += 1,
-            [Event::Raised, Event::Raised] => self.raised_twice += 1,
-            _ => self.done += 1,
-        }
-    }
-}
+const RESTORES: [&str; 6] = [
+    "",
+    "full",
+    "raise",
+    "raise, raise",
+    "raise, not raised",
+    "raise, raise, not raised",
+];
 
 impl Met {
-    fn note(&mut self, operation: &Operation, faults: Faults, events: &[Event]) {
-        if operation.brings_back() {
-            self.restores.note(events);
-        }
-        let any = |wanted: fn(&Event) -> bool| events.iter().any(wanted);
-        let sends = any(|event| matches!(event, Event::Sent(_)));
-        let not_raised = any(|event| matches!(event, Event::NotRaised(_)));
+    fn note(&mut self, operation: &Operation, steps: &[Step]) {
+        let names: Vec<&str> = steps.iter().map(Step::name).collect();
+        let met = match operation.brings_back() {
+            true => &mut self.restores,
+            false => &mut self.calls,
+        };
+        *met.entry(names.join(", ")).or_default() += 1;
         self.operations += 1;
-        self.sent += usize::from(sends);
-        self.raised += usize::from(events.contains(&Event::Raised));
-        self.full += usize::from(events.contains(&Event::Full));
-        self.not_sent += usize::from(any(|event| matches!(event, Event::NotSent(_))));
-        self.not_raised += usize::from(not_raised);
-        self.neither += usize::from(not_raised && sends && (faults.write || faults.flush));
     }
 
     fn note_rows(&mut self, rows: &[&'static str]) {
         for row in rows {
-            *self.rows.entry(row).or_default() += 1;
+            *self.rows.entry(row.to_string()).or_default() += 1;
+        }
+    }
+
+    fn note_counters(&mut self, answer: &str) {
+        let Some(counters) = answer.strip_prefix("counters ") else {
+            return;
+        };
+        let counters: Vec<&str> = counters.split_whitespace().collect();
+        if !counters.contains(&"0") {
+            *self.counters.entry(counters.len()).or_default() += 1;
         }
     }
 
     fn lacks_something(&self) -> bool {
-        let met = self.rows.values().filter(|&&times| times >= 10).count();
-        let least = [
-            self.sent,
-            self.raised,
-            self.full,
-            self.not_raised,
-            self.not_sent,
-            self.neither,
-            self.restores.done,
-            self.restores.raised_twice,
-            self.restores.refused,
-            self.restores.first_not_raised,
-            self.restores.second_not_raised,
-            self.reachable,
-            self.unreachable,
-        ];
-        least.iter().any(|&times| times < 10) || met != ROWS
+        let often = |times: Option<&usize>| times.is_some_and(|&times| times >= 10);
+        let rows = self.rows.values().filter(|&times| often(Some(times)));
+        let met = CALLS.iter().all(|&steps| often(self.calls.get(steps)))
+            && RESTORES
+                .iter()
+                .all(|&steps| often(self.restores.get(steps)))
+            && [4, 2].iter().all(|count| often(self.counters.get(count)))
+            && often(Some(&self.reachable))
+            && often(Some(&self.unreachable));
+        !met || rows.count() != ROWS
     }
 }
 
-/// What a line was answered, and what that did to the host.
-type Done = (String, Vec<Event>);
+/// What a line was answered, and the steps of that.
+type Done = (String, Vec<Step>);
 
 /// Both, each with its host, and the judge's accounts of them.
-struct Pair {
+struct Pair<'a> {
     hosts: [Rc<Host>; 2],
     original: Driver<original::Monitor>,
     ours: Driver<ours::Monitor>,
     sides: Sides,
+    /// What the accounts answer, line by line.
+    accounts: Sides,
+    planted: Option<&'a Planted>,
 }
 
-impl Pair {
-    fn new() -> Self {
+impl<'a> Pair<'a> {
+    fn new(planted: Option<&'a Planted>) -> Self {
         let hosts: [Rc<Host>; 2] = Default::default();
         Pair {
             original: Driver::new(original::Monitor(hosts[0].clone())),
             ours: Driver::new(ours::Monitor(hosts[1].clone())),
             hosts,
             sides: Sides::default(),
+            accounts: Sides::default(),
+            planted,
         }
     }
 
@@ -148,13 +183,16 @@ impl Pair {
     fn ask(&mut self, line: &[u8], faults: Faults) -> [Done; 2] {
         for host in &self.hosts {
             host.faults.set(faults);
-            host.events.take();
+            host.steps.take();
         }
         let answers = [self.original.answer(line), self.answer_of_ours(line)];
-        [0, 1].map(|i| {
-            let answer = String::from_utf8_lossy(&answers[i]).into_owned();
-            (answer, self.hosts[i].events.take())
-        })
+        let mut steps = [0, 1].map(|i| self.hosts[i].steps.take());
+        if let Some(planted) = self.planted {
+            planted.change(&mut steps[1], answers[0] != answers[1]);
+        }
+        let [original, ours] = answers.map(text);
+        let [original_steps, our_steps] = steps;
+        [(original, original_steps), (ours, our_steps)]
     }
 
     /// The level of the line only this crate tells, so the monitor does not ask for it.
@@ -167,22 +205,42 @@ impl Pair {
         }
     }
 
-    /// Has both answer the line, and goes on to the next. They are to differ where the rows say so. What they do to
-    /// their hosts is the same, but for the raises where the answers differ.
-    fn answer(&mut self, line: &[u8], faults: Faults) -> Result<[Done; 2], String> {
+    /// Has both answer the line, and goes on to the next. They are to differ where the rows say so. There each raises
+    /// as often as its account says, and fails by that; all other steps are the same, in the same order. Counters are
+    /// the accounts'. These are told of what the sink did not take; what the list says is lost counts besides, since
+    /// the monitor is not told of it before the write.
+    fn answer(
+        &mut self,
+        line: &[u8],
+        faults: Faults,
+        accounts: &[String; 2],
+    ) -> Result<[Done; 2], String> {
         let done = self.ask(line, faults);
         let [original, ours] = &done;
         let answers = [original.0.as_bytes(), ours.0.as_bytes()];
         if let Some(why) = self.sides.fault(line, answers) {
             return Err(told(&why, &done, faults));
         }
-        let is_same = match original.0 == ours.0 {
+        if line == b"counters" && [&original.0, &ours.0] != accounts.each_ref() {
+            return Err(told(&format!("counted: {accounts:?}"), &done, faults));
+        }
+        if original.1.contains(&Step::Told(Callback::TxLostByte)) {
+            self.accounts.go_on(b"lost");
+        }
+        let are_the_same = match original.0 == ours.0 {
             true => original.1 == ours.1,
-            false => without_raises(&original.1) == without_raises(&ours.1),
+            false => {
+                without_raises(&original.1) == without_raises(&ours.1)
+                    && [original, ours].map(|(_, steps)| raises_in(steps)) == raises_told(accounts)
+                    && done.iter().all(|(_, steps)| fails_as_due(steps, faults))
+            }
         };
-        match is_same {
+        if !are_the_same {
+            return Err(told("other steps", &done, faults));
+        }
+        match done.iter().all(|(_, steps)| raises_come_last(steps)) {
             true => Ok(done),
-            false => Err(told("the host is told differently", &done, faults)),
+            false => Err(told("a raise before other steps", &done, faults)),
         }
     }
 
@@ -196,9 +254,47 @@ impl Pair {
     }
 }
 
-fn without_raises(events: &[Event]) -> Vec<&Event> {
-    let others = events.iter().filter(|event| **event != Event::Raised);
+/// The steps without the raises, and without what may come of them: what the call failed with.
+fn without_raises(steps: &[Step]) -> Vec<&Step> {
+    let others = steps.iter().filter(|step| !ENDS.contains(&step.name()));
     others.collect()
+}
+
+/// The steps that end a call.
+const ENDS: [&str; 3] = ["raise", "not raised", "not sent"];
+
+/// Whether a call that raises no more than once fails as it should, if it should.
+fn fails_as_due(steps: &[Step], faults: Faults) -> bool {
+    let names: Vec<&str> = steps.iter().map(Step::name).collect();
+    let due = match names.contains(&"raise") && faults.line[0] {
+        true => Some("not raised"),
+        false => names.contains(&"TxLostByte").then_some("not sent"),
+    };
+    let failures = names.iter().filter(|name| ENDS[1..].contains(name));
+    failures.copied().eq(due)
+}
+
+/// Whether nothing follows the first raise but others, and what the call failed with.
+fn raises_come_last(steps: &[Step]) -> bool {
+    let mut from_the_first_on = steps.iter().skip_while(|step| **step != Step::Raised);
+    from_the_first_on.all(|step| ENDS.contains(&step.name()))
+}
+
+fn text(answer: Vec<u8>) -> String {
+    String::from_utf8_lossy(&answer).into_owned()
+}
+
+/// How many raises the answers of both accounts tell.
+fn raises_told(answers: &[String; 2]) -> [usize; 2] {
+    answers.each_ref().map(|answer| {
+        let words: Vec<&str> = answer.split_whitespace().collect();
+        let word = match words[..] {
+            ["w" | "r" | "b", _, raises] => raises,
+            ["restore", raises, _] => raises,
+            _ => return 0,
+        };
+        word.parse().unwrap_or(0)
+    })
 }
 
 fn told(why: &str, [original, ours]: &[Done; 2], faults: Faults) -> String {
@@ -227,21 +323,25 @@ fn told_apart(operation: &Operation, met: &mut Met) -> Result<(), String> {
     Ok(())
 }
 
-fn drive(list: &[u8], seed: u64, met: &mut Met) -> Result<(), String> {
-    let mut pair = Pair::new();
+fn drive(list: &[u8], seed: u64, planted: Option<&Planted>, met: &mut Met) -> Result<(), String> {
+    let mut pair = Pair::new(planted);
     let mut numbers = Numbers::new(seed);
     for (number, line) in format::asking_lines(list).enumerate() {
         let Some(operation) = format::parse(line) else {
             continue;
         };
-        // A write that may raise for two kinds: where raising the first fails vm-superio leaves the second out, ours
-        // does not (the README has it among what is different). So the first does not fail there, and in a row, where
-        // the two raise differently, none does.
+        let restores = operation.brings_back();
         let rows = pair.sides.rows(line);
-        let is_ier = matches!(operation, Operation::WriteByte(1, _));
+        let accounts = pair.accounts.go_on(line).map(text);
+        let raises = raises_told(&accounts);
+        // A write that raises for two kinds: where raising the first fails vm-superio leaves the second out, ours does
+        // not (the README has it among what is different). So the first does not fail there. In a row, where the two
+        // raise differently, the line fails for writes alone: what an input answers depends on it.
+        let raises_twice = raises.contains(&2) && !restores;
+        let is_write = matches!(operation, Operation::WriteByte(..));
         let faults = Faults {
             line: [
-                numbers.once_in(FAULT_ONCE_IN) && !is_ier && rows.is_empty(),
+                numbers.once_in(FAULT_ONCE_IN) && !raises_twice && (is_write || rows.is_empty()),
                 numbers.once_in(FAULT_ONCE_IN) && rows.is_empty(),
             ],
             write: numbers.once_in(FAULT_ONCE_IN),
@@ -250,38 +350,64 @@ fn drive(list: &[u8], seed: u64, met: &mut Met) -> Result<(), String> {
         let here = |why| format!("line {} of seed {seed}: {operation:?}\n{why}", number + 1);
         // Where a restore fails there is no new port. So it is done without faults first, and once more with them where
         // both raise alike.
-        let restores = operation.brings_back();
         let first = if restores { Faults::default() } else { faults };
-        let done = pair.answer(line, first).map_err(here)?;
-        met.note(&operation, first, &done[0].1);
+        let done = pair.answer(line, first, &accounts).map_err(here)?;
+        met.note(&operation, &done[0].1);
         met.note_rows(&rows);
+        met.note_counters(&done[0].0);
         if restores && done[0] == done[1] {
             let done = pair.again(line, faults).map_err(here)?;
-            met.note(&operation, faults, &done[0].1);
+            met.note(&operation, &done[0].1);
         }
         told_apart(&operation, met).map_err(here)?;
     }
     Ok(())
 }
 
+/// Sends bytes of which each is to be raised for, so that the sink and the line fail in all ways together; then bytes
+/// for which vm-superio alone raises, since it forgot what it had marked before, while a byte waits.
+fn sending_list(bytes: usize) -> Vec<u8> {
+    let sends = (0..bytes).map(|byte| format!("r 02\nw 00 {:02x}\n", byte % 256));
+    let sends: String = sends.collect();
+    format!("serial\nw 01 02\n{sends}serial\nw 01 03\nb 61\n{sends}").into_bytes()
+}
+
 fn compare(met: &mut Met) -> Result<(), String> {
     let everything = Options::default();
-    drive(&exhaustive::list(&everything), 0, met)?;
+    drive(&exhaustive::list(&everything), 0, None, met)?;
+    drive(&sending_list(50_000), 0, None, met)?;
     for seed in 1..=5 {
-        drive(&random::list(&everything, 200_000, seed), seed, met)?;
+        drive(&random::list(&everything, 200_000, seed), seed, None, met)?;
     }
-    if met.lacks_something() {
-        return Err("the lists leave something out".to_string());
+    match met.lacks_something() {
+        true => Err("the lists leave something out".to_string()),
+        false => Ok(()),
     }
-    Ok(())
+}
+
+/// Whether short lists find each planted fault. Without one they find nothing. Answers how many there are.
+fn find_planted() -> Result<usize, String> {
+    let random = random::list(&Options::default(), 20_000, 1);
+    let list = [sending_list(1000), random].concat();
+    drive(&list, 1, None, &mut Met::default())?;
+    let faults = planted::faults();
+    for fault in &faults {
+        if drive(&list, 1, Some(fault), &mut Met::default()).is_ok() {
+            return Err(format!("a planted fault is not found: {}", fault.what));
+        }
+    }
+    Ok(faults.len())
 }
 
 fn main() -> ExitCode {
     let mut met = Met::default();
-    let verdict = compare(&mut met);
-    println!("{met:?}");
+    let verdict = compare(&mut met).and_then(|()| find_planted());
+    println!("{met:#?}");
     match verdict {
-        Ok(()) => ExitCode::SUCCESS,
+        Ok(faults) => {
+            println!("{faults} planted faults found");
+            ExitCode::SUCCESS
+        }
         Err(why) => {
             println!("{why}");
             ExitCode::FAILURE

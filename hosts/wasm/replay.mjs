@@ -5,13 +5,14 @@
 // of `hosts/library wasm32-unknown-unknown`. What cannot be used gets one line on standard error and the status 2.
 import { createReadStream } from "node:fs";
 import { fail, loadNamed } from "./module.mjs";
-import { Clock, ResetController, SerialPort, isRefused, numberOf, raisesOf, sends } from "./serialpost.mjs";
+import { Clock, ClockCounters, ResetController, SerialCounters, SerialPort, isRefused, numberOf, raisesOf, sends } from "./serialpost.mjs";
 import { bytesOf, clockOf, clockText, hex, hexOf, portOf, portText } from "./text.mjs";
 
 const LONGEST_LINE = 8192;
 const NO_OPERATION = "?";
 
 const number = (digits) => parseInt(digits, 16);
+const countersText = (counters) => ["counters", ...Object.values(counters.values)].join(" ");
 const reachableText = (reachable) => (reachable ? "reached" : "unreached");
 
 // Each device's accesses: what a line looks like, and how it is answered.
@@ -21,24 +22,33 @@ class SerialLines {
 
     constructor(library) {
         this.port = new SerialPort(library);
+        this.counters = new SerialCounters(library);
     }
 
     begin() {
         this.port.init();
+        this.counters.init();
     }
 
     accesses = [
         [/^w ([0-9a-f]{2}) ([0-9a-f]{2})$/, (offset, value) => {
             const answer = this.port.write(number(offset), number(value));
+            this.counters.count(answer);
             return `w ${sends(answer) ? hex(numberOf(answer), 2) : "--"} ${raisesOf(answer)}`;
         }],
         [/^r ([0-9a-f]{2})$/, (offset) => {
             const answer = this.port.read(number(offset));
+            this.counters.count(answer);
             return `r ${hex(numberOf(answer), 2)} ${raisesOf(answer)}`;
         }],
         [/^b(?: ((?:[0-9a-f]{2})+))?$/, (bytes = "") => {
             const answer = this.port.input(bytesOf(bytes));
             return `b ${isRefused(answer) ? "full" : numberOf(answer)} ${raisesOf(answer)}`;
+        }],
+        [/^counters$/, () => countersText(this.counters)],
+        [/^lost$/, () => {
+            this.counters.lost();
+            return "lost";
         }],
         [/^room$/, () => `room ${this.port.room()}`],
         [/^line$/, () => `line ${this.port.line() ? 1 : 0}`],
@@ -60,10 +70,12 @@ class ClockLines {
 
     constructor(library) {
         this.clock = new Clock(library);
+        this.counters = new ClockCounters(library);
     }
 
     begin() {
         this.clock.init();
+        this.counters.init();
         this.time = 0n;
     }
 
@@ -76,11 +88,16 @@ class ClockLines {
             return "now";
         }],
         [/^r ([0-9a-f]{4}) ([0-9a-f]{8})$/, (offset, held) => {
-            const { bytes, valid } = this.clock.read(number(offset), this.time, bytesOf(held));
+            const { bytes, valid, word } = this.clock.read(number(offset), this.time, bytesOf(held));
+            this.counters.countRead(word);
             return `r ${hexOf(bytes)} ${valid ? "ok" : "invalid"}`;
         }],
-        [/^w ([0-9a-f]{4}) ([0-9a-f]{8})$/, (offset, bytes) =>
-            `w ${this.clock.write(number(offset), this.time, bytesOf(bytes)) ? "ok" : "invalid"}`],
+        [/^w ([0-9a-f]{4}) ([0-9a-f]{8})$/, (offset, bytes) => {
+            const { valid, word } = this.clock.write(number(offset), this.time, bytesOf(bytes));
+            this.counters.countWrite(word);
+            return `w ${valid ? "ok" : "invalid"}`;
+        }],
+        [/^counters$/, () => countersText(this.counters)],
         [/^state$/, () => `state ${clockText(this.clock.save())}`],
         [/^save$/, () => `save ${clockText((this.kept = this.clock.save()))}`],
         [/^restore$/, () => (this.kept ? this.restored(this.kept) : NO_OPERATION)],

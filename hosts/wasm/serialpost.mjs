@@ -7,11 +7,12 @@ const CALLS = [
     "serial_init", "serial_read", "serial_write", "serial_input", "serial_room", "serial_line", "serial_play",
     "serial_save", "serial_restore", "serial_encode", "serial_decode",
     "clock_init", "clock_read", "clock_write", "clock_save", "clock_restore", "clock_encode", "clock_decode",
+    "serial_counters_init", "serial_count", "serial_lost", "clock_counters_init", "clock_count_read", "clock_count_write",
     "i8042_read", "i8042_write",
 ].map((name) => `serialpost_raw_${name}`);
 
 /** The interface that this file is written for. */
-const VERSION = 2;
+const VERSION = 3;
 
 const PAGE = 65536;
 const REGS_SIZE = 16;
@@ -20,12 +21,30 @@ const PLACES = 1024;
 const SERIAL_FORM_MOST = 77;
 const REASONS = [undefined, "too short", "trailing", "version", "too many", "offset", "spare"];
 
-// The word that a call answers, taken apart: one layout for all calls.
-export const numberOf = (answer) => answer & 0xffff;
-export const isRefused = (answer) => (answer & 0x1_0000) !== 0;
-export const sends = (answer) => (answer & 0x2_0000) !== 0;
-const isReachable = (answer) => (answer & 0x4_0000) !== 0;
-export const raisesOf = (answer) => answer >>> 24;
+// The bits of the word that a call answers, by their names in include/serialpost_raw.h: one layout for all calls.
+const WORD_NUMBER = 0xffff;
+const WORD_REFUSED = 0x1_0000;
+const WORD_SENDS = 0x2_0000;
+const WORD_REACHABLE = 0x4_0000;
+const WORD_DATA_READ = 0x8_0000;
+const WORD_DELIVERED = 0x10_0000;
+const WORD_NONE_LEFT = 0x20_0000;
+const WORD_LOOPED = 0x40_0000;
+const WORD_DROPPED = 0x80_0000;
+const WORD_RAISE = 0x1000_0000;
+
+// The word taken apart.
+const has = (bit) => (answer) => (answer & bit) !== 0;
+export const numberOf = (answer) => answer & WORD_NUMBER;
+export const isRefused = has(WORD_REFUSED);
+export const sends = has(WORD_SENDS);
+const isReachable = has(WORD_REACHABLE);
+export const isDataRead = has(WORD_DATA_READ);
+export const isDelivered = has(WORD_DELIVERED);
+export const isNoneLeft = has(WORD_NONE_LEFT);
+export const isLooped = has(WORD_LOOPED);
+export const isDropped = has(WORD_DROPPED);
+export const raisesOf = (answer) => Math.floor((answer >>> 0) / WORD_RAISE);
 
 /** A loaded module: its functions, and memory to lend to them. */
 export class Library {
@@ -213,21 +232,23 @@ export class Clock {
         this.library.calls.serialpost_raw_clock_init(this.address);
     }
 
-    /** What the four bytes hold after the read, and whether there is such a register. */
+    /** What the four bytes hold after the read, whether a register can be read there, and the word that the call answers. */
     read(offset, time, bytes) {
         const { library } = this;
         return library.lending(() => {
             const there = library.copied(bytes);
-            const answer = library.calls.serialpost_raw_clock_read(this.address, offset, time, there);
-            return { bytes: library.bytes(there, 4), valid: !isRefused(answer) };
+            const word = library.calls.serialpost_raw_clock_read(this.address, offset, time, there) >>> 0;
+            return { bytes: library.bytes(there, 4), valid: !isRefused(word), word };
         });
     }
 
-    /** Whether there is such a register. */
+    /** Whether a register can be written there, and the word. */
     write(offset, time, bytes) {
         const { library } = this;
-        return library.lending(
-            () => !isRefused(library.calls.serialpost_raw_clock_write(this.address, offset, time, library.copied(bytes))));
+        return library.lending(() => {
+            const word = library.calls.serialpost_raw_clock_write(this.address, offset, time, library.copied(bytes)) >>> 0;
+            return { valid: !isRefused(word), word };
+        });
     }
 
     save() {
@@ -266,6 +287,65 @@ export function decodeClock(library, form) {
         const reason = reasonOf(answer);
         return reason ? { reason } : { saved: clockAt(library, saved) };
     });
+}
+
+/** Numbers of 64 bits in the module's memory, which calls of a device's answers count up. */
+class Counters {
+    constructor(library, names) {
+        this.library = library;
+        this.names = names;
+        this.address = library.reserve(8 * names.length);
+        this.init();
+    }
+
+    /** A BigInt for each name. */
+    get values() {
+        const words = this.library.view(this.address, 8 * this.names.length);
+        return Object.fromEntries(this.names.map((name, i) => [name, words.getBigUint64(8 * i, true)]));
+    }
+
+    set values(values) {
+        const words = this.library.view(this.address, 8 * this.names.length);
+        this.names.forEach((name, i) => words.setBigUint64(8 * i, values[name], true));
+    }
+}
+
+export class SerialCounters extends Counters {
+    constructor(library) {
+        super(library, ["dataReads", "sent", "lost", "noneLeft"]);
+    }
+
+    init() {
+        this.library.calls.serialpost_raw_serial_counters_init(this.address);
+    }
+
+    /** Counts what a word tells that the port answered. */
+    count(word) {
+        this.library.calls.serialpost_raw_serial_count(this.address, word);
+    }
+
+    /** A byte could not be sent. */
+    lost() {
+        this.library.calls.serialpost_raw_serial_lost(this.address);
+    }
+}
+
+export class ClockCounters extends Counters {
+    constructor(library) {
+        super(library, ["invalidReads", "invalidWrites"]);
+    }
+
+    init() {
+        this.library.calls.serialpost_raw_clock_counters_init(this.address);
+    }
+
+    countRead(word) {
+        this.library.calls.serialpost_raw_clock_count_read(this.address, word);
+    }
+
+    countWrite(word) {
+        this.library.calls.serialpost_raw_clock_count_write(this.address, word);
+    }
 }
 
 /** The reset corner of an i8042. */

@@ -6,7 +6,9 @@
 // of 8 or 16 bits only these count. Exit status: 0 all holds, 1 something does not, 2 there is no such module.
 import { readFileSync } from "node:fs";
 import { fail, loadNamed } from "./module.mjs";
-import { Clock, ResetController, SerialPort, decodeClock, decodePort, encodeClock, encodePort } from "./serialpost.mjs";
+import { Clock, ClockCounters, ResetController, SerialCounters, SerialPort } from "./serialpost.mjs";
+import { decodeClock, decodePort, encodeClock, encodePort } from "./serialpost.mjs";
+import { isDataRead, isDelivered, isDropped, isLooped, isNoneLeft } from "./serialpost.mjs";
 import { bytesOf, clockText, hexOf, portText } from "./text.mjs";
 
 const inRepository = (path) => readFileSync(new URL(`../../${path}`, import.meta.url), "latin1");
@@ -147,6 +149,52 @@ function theLineIsHighWhileAByteWaits(library) {
     expect(port.line(), false, "the line once it is read");
 }
 
+// ---- Counters
+
+const valuesOf = (counters) => Object.values(counters.values).join(" ");
+
+function whatHappensIsToldAndCounted(library) {
+    const port = new SerialPort(library), counters = new SerialCounters(library);
+    port.input([0x61]);
+    const [byte, nothing] = [port.read(0), port.read(0)], sent = port.write(0, 0x78);
+    expect([isDataRead, isDelivered, isNoneLeft].map((told) => told(byte)).join(), "true,true,true", "the last byte's read");
+    expect([isDataRead, isDelivered, isNoneLeft].map((told) => told(nothing)).join(), "true,false,true", "a read of nothing");
+    port.write(4, 0x10);
+    port.input([0x61]);
+    const looped = Array.from({ length: 65 }, () => port.write(0, 0x79));
+    expect(looped.filter(isLooped).length, 64, "bytes that wait in the loop");
+    expect(looped.filter(isDropped).length, 1, "bytes that are dropped in the loop");
+    [byte, nothing, sent, port.read(5), ...looped].forEach((word) => counters.count(word));
+    counters.lost();
+    expect(valuesOf(counters), "2 1 1 2", "the port's counters");
+
+    const clock = new Clock(library), invalid = new ClockCounters(library);
+    for (const offset of [0x000, 0x01c, 0x020]) {
+        invalid.countRead(clock.read(offset, 0n, [0, 0, 0, 0]).word);
+        invalid.countWrite(clock.write(offset, 0n, [0, 0, 0, 0]).word);
+    }
+    expect(valuesOf(invalid), "2 2", "the clock's counters");
+}
+
+function countersStopAtTheHighestNumber(library) {
+    const most = 2n ** 64n - 1n, all = 0xffff_ffff;
+    const port = new SerialCounters(library), clock = new ClockCounters(library);
+    port.values = { dataReads: most, sent: most - 1n, lost: most - 1n, noneLeft: most };
+    clock.values = { invalidReads: most - 1n, invalidWrites: most };
+    for (let time = 0; time < 2; time++) {
+        port.count(all);
+        port.lost();
+        clock.countRead(all);
+        clock.countWrite(all);
+    }
+    expect(valuesOf(port), `${most} ${most} ${most} ${most}`, "the port's counters");
+    expect(valuesOf(clock), `${most} ${most}`, "the clock's counters");
+    port.init();
+    clock.init();
+    expect(valuesOf(port), "0 0 0 0", "the port's fresh counters");
+    expect(valuesOf(clock), "0 0", "the clock's fresh counters");
+}
+
 // ---- Narrow arguments
 
 function upperBitsOfBytesDoNotCount(library) {
@@ -170,8 +218,8 @@ function upperBitsOfClockOffsetsDoNotCount(library) {
         const time = BigInt(any(2 ** 32)) << BigInt(any(33)), bytes = anyBytes(4);
         const read = clock.read(wide, time, bytes), sameRead = same.read(offset, time, bytes);
         expect(hexOf(read.bytes), hexOf(sameRead.bytes), "what a clock's read gives");
-        expect(read.valid, sameRead.valid, "a clock's read");
-        expect(clock.write(wide, time, bytes), same.write(offset, time, bytes), "a clock's write");
+        expect(read.word, sameRead.word, "a clock's read");
+        expect(clock.write(wide, time, bytes).word, same.write(offset, time, bytes).word, "a clock's write");
     }
     expect(clockText(clock.save()), clockText(same.save()), "the clock after all of these");
 }
@@ -192,6 +240,8 @@ function main(words) {
     statesWithoutAFormAreRefused(library);
     devicesAreSavedAndRestored(library);
     theLineIsHighWhileAByteWaits(library);
+    whatHappensIsToldAndCounted(library);
+    countersStopAtTheHighestNumber(library);
     upperBitsOfBytesDoNotCount(library);
     upperBitsOfClockOffsetsDoNotCount(library);
     expect(sorted(called), sorted(exported), "the functions that were called");

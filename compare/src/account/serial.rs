@@ -1,7 +1,7 @@
 //! The serial port of the account. Its interrupts have two ways: ours (`ours`) and the original's
 //! (`original`). All else is the same.
 
-use crate::devices::{self, Raised, SerialState};
+use crate::devices::{self, PortCounters, Raised, SerialState};
 use crate::devices::{DLL, DLM, IER, IIR, LCR, LSR, MCR, MSR, SCR};
 
 const IIR_SHOWN: u8 = 0xc0;
@@ -69,9 +69,20 @@ pub fn reaches(way: &impl Way, port: &SerialState) -> bool {
 /// The loop's wires: a bit of MCR, and the bit of MSR that follows it.
 const WIRES: [(u8, u8); 4] = [(0x02, 0x10), (0x01, 0x20), (0x04, 0x40), (0x08, 0x80)];
 
+/// What is counted: reads of RBR, bytes that go out, those of them that are lost, and reads of RBR after which
+/// no byte waits.
+#[derive(Default)]
+struct Counted {
+    fetched: usize,
+    sent: usize,
+    lost: usize,
+    emptied: usize,
+}
+
 pub struct Serial<W> {
     way: W,
     port: SerialState,
+    counted: Counted,
 }
 
 impl<W: Way> Serial<W> {
@@ -81,7 +92,11 @@ impl<W: Way> Serial<W> {
         ];
         let buffer = Vec::new();
         let port = SerialState { registers, buffer };
-        Serial { way, port }
+        Serial {
+            way,
+            port,
+            counted: Counted::default(),
+        }
     }
 
     /// Does something, and answers how many interrupts that raised.
@@ -105,6 +120,7 @@ impl<W: Way> Serial<W> {
     fn transmit(&mut self, value: u8) -> Option<u8> {
         self.way.transmits(&mut self.port);
         if !self.port.loops() {
+            self.counted.sent += 1;
             return Some(value);
         }
         if self.port.room() > 0 {
@@ -120,11 +136,13 @@ impl<W: Way> Serial<W> {
     }
 
     fn fetch(&mut self) -> u8 {
+        self.counted.fetched += 1;
         let first = match self.port.waits() {
             true => self.port.buffer.remove(0),
             false => 0,
         };
         if !self.port.waits() {
+            self.counted.emptied += 1;
             self.port.registers[LSR] &= !LSR_DATA_READY;
         }
         self.way.fetched(&mut self.port);
@@ -189,6 +207,16 @@ impl<W: Way> devices::Serial for Serial<W> {
         (Some(taken), raised)
     }
 
+    /// Believed also where nothing was sent.
+    fn lost(&mut self) {
+        self.counted.lost += 1;
+    }
+
+    fn counters(&self) -> PortCounters {
+        let counted = &self.counted;
+        [counted.fetched, counted.sent, counted.lost, counted.emptied]
+    }
+
     fn room(&self) -> usize {
         self.port.room()
     }
@@ -197,6 +225,7 @@ impl<W: Way> devices::Serial for Serial<W> {
         self.port.clone()
     }
 
+    /// What was counted is no part of a state.
     fn restore(&mut self, state: &SerialState) -> Option<Raised> {
         if state.buffer.len() > SerialState::SIZE {
             return None;

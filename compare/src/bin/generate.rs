@@ -15,7 +15,8 @@ const USAGE: &str = "usage: generate KIND [OPTION..] > LIST
   --quiet-enable        without the writes of the interrupt enable register that announce
                         something in vm-superio 0.8.2
   --no-saves            without saved states
-  --no-lines            without the question for the interrupt line";
+  --no-lines            without the question for the interrupt line
+  --no-counters         without counters and lost bytes";
 
 fn device(name: &str) -> Result<Device, Trouble> {
     let device = Device::ALL.into_iter().find(|device| device.word() == name);
@@ -31,6 +32,7 @@ fn run(arguments: &[&str]) -> Result<ExitCode, Trouble> {
             "--quiet-enable" => options.quiet_enable = true,
             "--no-saves" => options.saves = false,
             "--no-lines" => options.lines = false,
+            "--no-counters" => options.counters = false,
             "--devices" => {
                 let names = arguments.next().ok_or(USAGE)?.split(',');
                 options.devices = names.map(device).collect::<Result<_, _>>()?;

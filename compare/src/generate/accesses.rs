@@ -41,6 +41,20 @@ impl Writer {
         self.add("line");
     }
 
+    /// Guest and host talk a while: bytes are sent, come in and are read.
+    pub(super) fn talk(&mut self) {
+        self.write(3, 0x03);
+        self.write(4, 0x0b);
+        for _ in 0..self.numbers.below(6) {
+            let value = self.numbers.byte();
+            match self.numbers.below(4) {
+                0 => self.add_input(&[value]),
+                1 => self.add("r 00"),
+                _ => self.write(0, value),
+            }
+        }
+    }
+
     fn serial_offset(&mut self) -> u8 {
         match self.numbers.below(12) {
             0 => self.numbers.byte(),

@@ -1,5 +1,6 @@
 //! Lists that leave nothing out within their bounds: every run of up to three operations over a small
-//! alphabet, and every offset, value and state that is brought back where that can be had.
+//! alphabet, and every offset, value and state that is brought back where that can be had. The counters are
+//! asked for at the end of each.
 
 use super::states::{offsets, LOADS};
 use super::{announces, List, Options};
@@ -9,7 +10,9 @@ use crate::format::{self, Device};
 
 pub fn list(options: &Options) -> Vec<u8> {
     let mut list = List::new(options);
-    let saves = options.saves;
+    let Options {
+        saves, counters, ..
+    } = *options;
     if list.has(Device::I8042) {
         every_i8042_access(&mut list);
     }
@@ -19,7 +22,7 @@ pub fn list(options: &Options) -> Vec<u8> {
     }
     if list.has(Device::Serial) {
         every_serial_access(&mut list);
-        every_run(&mut list, "serial", serial_alphabet(saves));
+        every_run(&mut list, "serial", serial_alphabet(saves, counters));
     }
     if list.has(Device::Clock) && saves {
         restored_clocks(&mut list);
@@ -45,18 +48,23 @@ fn every_i8042_access(list: &mut List) {
 }
 
 /// All reads, and all 65,536 writes with the modem status after it, each on a fresh port with two bytes
-/// waiting, and with the state at its end.
+/// waiting, and with the state at its end. Where counters are asked for the bytes are read, too, after each
+/// read.
 fn every_serial_access(list: &mut List) {
     for offset in 0..=0xff {
         list.add(format!("serial\nb 6162\nr {offset:02x}\nline\nstate"));
+        if list.options.counters {
+            list.add("counters\nr 00\ncounters\nr 00\ncounters\nr 00\ncounters");
+        }
         for value in 0..=0xff {
             list.add(format!("serial\nb 6162\nw {offset:02x} {value:02x}"));
-            list.add("r 06\nline\nstate");
+            list.add("r 06\nline\nstate\ncounters");
         }
     }
 }
 
-/// All 65,536 offsets, read and written, at several times and with several values.
+/// All 65,536 offsets, read and written, at several times and with several values; the first time with the
+/// counters after each, later at the end.
 fn every_clock_offset(list: &mut List) {
     for (now, data) in [
         (0, "00000000"),
@@ -68,12 +76,14 @@ fn every_clock_offset(list: &mut List) {
         list.add(format!("clock\nnow {now}"));
         // Registers that differ from each other and from 0, so that each read shows which it was.
         list.add("w 0004 11111111\nw 0008 22222222\nw 0010 01000000");
+        let after_each = ["", "\ncounters"][usize::from(now == 0 && list.options.counters)];
         for offset in 0..=0xffff {
-            list.add(format!("r {offset:04x} {data}"));
+            list.add(format!("r {offset:04x} {data}{after_each}"));
         }
         for offset in 0..=0xffff {
-            list.add(format!("w {offset:04x} {data}\nstate"));
+            list.add(format!("w {offset:04x} {data}\nstate{after_each}"));
         }
+        list.add("counters");
     }
 }
 
@@ -88,26 +98,36 @@ fn restored_registers(list: &mut List) {
             registers[place] = &value;
             let registers = registers.join(" ");
             list.add(format!("serial\nrestore {registers} {waiting}"));
-            list.add("line\nstate");
+            list.add("line\nstate\ncounters");
         }
     }
 }
 
 /// What the interrupts depend on: each small value of IER and IIR, with a buffer that is empty, full and
 /// overfull, a line status that fits it and one that contradicts it, in the loop and out of it; then one
-/// access, and the state. The other registers are no fresh port's, so that a refusal shows.
+/// access, or a byte that is lost, and the state. The other registers are no fresh port's, so that a refusal shows.
 fn restored_marks(list: &mut List) {
     const IIRS: [u8; 11] = [0, 1, 2, 3, 4, 5, 6, 7, 8, 0xc6, 0xff];
-    const ACCESSES: &str = "b 7a\nr 00\nr 02\nw 00 55\nw 01 00\nw 01 01\nw 01 02\nw 01 03";
+    const ACCESSES: [&str; 9] = [
+        "b 7a",
+        "r 00",
+        "r 02",
+        "w 00 55",
+        "w 00 56\nlost",
+        "w 01 00",
+        "w 01 01",
+        "w 01 02",
+        "w 01 03",
+    ];
     for size in [0, 1, 63, 64, 65] {
         let waiting = different_bytes(size);
         for (contradicts, mcr) in [(0, "08"), (1, "08"), (0, "18"), (1, "18")] {
             let lsr = 0x60 | u8::from(size > 0) ^ contradicts;
             for (ier, iir) in (0..=0x10).flat_map(|ier| IIRS.map(|iir| (ier, iir))) {
                 let registers = format!("11 22 {ier:02x} {iir:02x} 03 {lsr:02x} {mcr} b0 33");
-                for access in ACCESSES.lines() {
+                for access in ACCESSES {
                     list.add(format!("serial\nrestore {registers} {waiting}"));
-                    list.add(format!("line\n{access}\nline\nstate"));
+                    list.add(format!("line\n{access}\nline\nstate\ncounters"));
                 }
             }
         }
@@ -142,15 +162,16 @@ fn restored_clocks(list: &mut List) {
             for offset in ["04", "08", "10", "14", "18"] {
                 list.add(format!("r 00{offset} aabbccdd"));
             }
-            list.add("w 001c 01000000\nstate");
+            list.add("w 001c 01000000\nstate\ncounters");
         }
     }
 }
 
 // ---- Runs
 
-fn serial_alphabet(saves: bool) -> Vec<String> {
+fn serial_alphabet(saves: bool, counters: bool) -> Vec<String> {
     let mut alphabet = saves_alphabet(saves);
+    alphabet.extend(counters.then(|| "lost".to_string()));
     for offset in 0..8 {
         alphabet.push(format!("r {offset:02x}"));
         let values = ["00", "01", "03", "10", "80", "ff"];
@@ -188,7 +209,7 @@ fn every_run(list: &mut List, device: &str, alphabet: Vec<String>) {
             left.extend(alphabet.iter().rev().map(|line| format!("{run}\n{line}")));
         }
         if !list.options.quiet_enable || !has_announcement(&run) {
-            list.add(run + "\nline\nstate");
+            list.add(run + "\nline\nstate\ncounters");
         }
     }
 }
@@ -213,7 +234,7 @@ mod tests {
             devices,
             quiet_enable,
             saves,
-            lines: true,
+            ..Options::default()
         });
         let starts = format::asking_lines(&text).filter(|line| format::is_start(line));
         starts.count()
@@ -223,10 +244,10 @@ mod tests {
     fn every_run_of_up_to_three_operations_is_there() {
         let runs = |letters: usize| 1 + letters + letters.pow(2) + letters.pow(3);
         let accesses = 256 + 65_536;
-        let restored = 2 * 9 * 256 + 5 * 4 * 17 * 11 * 8;
+        let restored = 2 * 9 * 256 + 5 * 4 * 17 * 11 * 9;
         for (device, saves, expected) in [
-            (Device::Serial, false, accesses + runs(59)),
-            (Device::Serial, true, accesses + runs(61) + restored),
+            (Device::Serial, false, accesses + runs(60)),
+            (Device::Serial, true, accesses + runs(62) + restored),
             (Device::Clock, false, 5 + runs(50)),
             (Device::Clock, true, 5 + runs(52) + 5 * 17 * 7),
             (Device::I8042, true, 1),

@@ -12,6 +12,8 @@ b
 b 616263
 line
 room
+lost
+counters
 r 0000 aabbccdd
 w 0008 05000000
 now 5
@@ -26,6 +28,7 @@ restore 00000005 fffffffffffffc18 80000000 00000001 00000000
 restore
 restore 00000005 7fffffffffffffff 80000000 00000003 ffffffff
 save
+counters
 state";
 
 pub fn list(options: &Options) -> Vec<u8> {
@@ -48,6 +51,7 @@ fn cases(list: &mut List) {
         malformed::LINES,
         malformed::SAVES,
         malformed::ABOUT_THE_LINE,
+        malformed::ABOUT_COUNTERS,
     ] {
         lines.iter().for_each(|line| list.add(line));
     }

@@ -37,12 +37,20 @@ pub const LINES: &[&[u8]] = &[
     b"now 36893488147419103232", b"now 184467440737095516160", b"now 100000000000000000000000000000000000",
 ];
 
-/// Such lines about the line, and about saved states. They have lists of their own: from the lines above
-/// random lists draw that have neither, and a seed is to make the same one always.
+/// Such lines about the line, about counters, and about saved states. They have lists of their own: from the
+/// lines above random lists draw that have none of these, and a seed is to make the same one always.
 #[rustfmt::skip]
 pub const ABOUT_THE_LINE: &[&[u8]] = &[
     b"line ", b" line", b"Line", b"LINE", b"lin", b"lines", b"line 0", b"line 1", b"line\r", b"line\t", b"line\0", b"line#",
     b"line line", b"line ?", b"line  ",
+];
+
+#[rustfmt::skip]
+pub const ABOUT_COUNTERS: &[&[u8]] = &[
+    b"counters ", b" counters", b"Counters", b"COUNTERS", b"counter", b"counterss", b"counters 0", b"counters 0 0", b"counters 0 0 0 0",
+    b"counters\r", b"counters\t", b"counters\0", b"counters#", b"counters counters", b"counters -", b"counters  ",
+    b"lost ", b" lost", b"Lost", b"LOST", b"los", b"losts", b"lost 0", b"lost 1", b"lost 55", b"lost\r", b"lost\t", b"lost\0", b"lost#",
+    b"lost lost", b"lost -", b"lost  ",
 ];
 
 #[rustfmt::skip]
@@ -66,7 +74,8 @@ pub const SAVES: &[&[u8]] = &[
     b" restore 0c 00 00 01 03 60 08 b0 00 -", b"restore 0c 00 00 01 03 60 08 b0 00 - -", b"restore\t0c 00 00 01 03 60 08 b0 00 -",
     // Clocks.
     b"restore 00000005 fffffffffffffc18 80000000 00000001", b"restore 00000005 fffffffffffffc18 80000000 00000001 ",
-    b"restore 00000005 fffffffffffffc18 80000000 00000001 00000000 ", b"restore 00000005 fffffffffffffc18 80000000 00000001 00000000 00000000",
+    b"restore 00000005 fffffffffffffc18 80000000 00000001 00000000 ",
+    b"restore 00000005 fffffffffffffc18 80000000 00000001 00000000 00000000",
     b"restore 0000005 fffffffffffffc18 80000000 00000001 00000000", b"restore 000000005 fffffffffffffc18 80000000 00000001 00000000",
     b"restore 00000005 ffffffffffffc18 80000000 00000001 00000000", b"restore 00000005 ffffffffffffffc18 80000000 00000001 00000000",
     b"restore 00000005 fffffc18 80000000 00000001 00000000", b"restore 00000005 -000000000000001 80000000 00000001 00000000",

@@ -22,6 +22,8 @@ pub struct Options {
     pub saves: bool,
     /// Ask for the line, and more about interrupts. As for states, a list without is an older one.
     pub lines: bool,
+    /// Ask for the counters, and lose bytes. The same holds.
+    pub counters: bool,
 }
 
 impl Default for Options {
@@ -31,6 +33,7 @@ impl Default for Options {
             quiet_enable: false,
             saves: true,
             lines: true,
+            counters: true,
         }
     }
 }
@@ -90,6 +93,7 @@ impl List {
         match format::parse(line) {
             Some(Operation::Start(device)) => !self.has(device),
             Some(Operation::Line) => !self.options.lines,
+            Some(Operation::Counters | Operation::Lost) => !self.options.counters,
             Some(operation) if operation == Operation::Save || operation.brings_back() => {
                 !self.options.saves
             }
@@ -113,7 +117,9 @@ mod tests {
             quiet_enable: true,
             saves: false,
             lines: false,
+            counters: false,
         });
+        list.add("counters\nlost");
         list.add(
             "serial\nclock\nw 01 02\nline\nsave\nrestore\nrestore 00 00 00 00 00 00 00 00 00 -",
         );

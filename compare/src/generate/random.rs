@@ -1,10 +1,11 @@
 //! Long random lists. They steer to the limits: a buffer that is empty, one short of full and full, the
 //! divisor and the loop open and closed, offsets beyond the registers, times at the ends of 32 and 64
-//! bits and going backwards, states that are saved and brought back, and lines that are no operation.
+//! bits and going backwards, states that are saved and brought back, bytes that are lost, and lines that are
+//! no operation. The counters are asked for every few lines.
 
 use super::numbers::Numbers;
 use super::{malformed, states, List, Options};
-use crate::format::{Device, Words};
+use crate::format::{parse, Device, Operation, Words};
 
 /// A list with `count` lines that get an answer.
 pub fn list(options: &Options, count: usize, seed: u64) -> Vec<u8> {
@@ -58,7 +59,29 @@ impl Writer {
             }
             self.exactly(slipped);
         }
-        self.exactly(line);
+        self.exactly(&line);
+        if self.list.options.counters {
+            self.count(line.as_ref());
+        }
+    }
+
+    /// Has a byte that a line sent be lost, often, and asks for the counters where the line may have changed
+    /// them. Both also elsewhere.
+    fn count(&mut self, line: &[u8]) {
+        let port = self.list.driver.port();
+        let sends = port.is_some_and(|port| !port.divisor_is_open() && !port.loops());
+        let (loses, asks) = match parse(line) {
+            Some(Operation::WriteByte(0, _)) if sends => (2, 5),
+            Some(Operation::WriteByte(0, _) | Operation::ReadByte(0) | Operation::Lost) => (30, 5),
+            Some(Operation::WriteWord(..) | Operation::ReadWord(..)) => (200, 8),
+            _ => (200, 20),
+        };
+        if self.numbers.once_in(loses) {
+            self.add("lost");
+        }
+        if self.numbers.once_in(asks) {
+            self.add("counters");
+        }
     }
 
     /// One device from its start to the next one's.
@@ -76,6 +99,7 @@ impl Writer {
                 self.save_or_restore(device);
             }
             match device {
+                Device::Serial if options.counters && self.numbers.once_in(10) => self.talk(),
                 Device::Serial if options.lines && self.numbers.once_in(3) => self.interrupts(),
                 Device::Serial => self.serial(),
                 Device::Clock => self.clock(),
@@ -83,6 +107,9 @@ impl Writer {
             }
         }
         self.add("state");
+        if options.counters {
+            self.add("counters");
+        }
     }
 
     fn start(&mut self, device: Device) {

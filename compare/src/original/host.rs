@@ -3,16 +3,29 @@
 use std::cell::{Cell, RefCell};
 use std::io;
 
-/// What happened during one call, in order: what the device did to the host, also where that failed, and
-/// at last what the call failed with, if it did.
+/// The callbacks for events.
+#[derive(Clone, Copy, Debug, PartialEq, Eq)]
+pub enum Callback {
+    BufferRead,
+    OutByte,
+    TxLostByte,
+    InBufferEmpty,
+    InvalidRead,
+    InvalidWrite,
+}
+use Callback::*;
+
+pub const PORT_CALLBACKS: [Callback; 4] = [BufferRead, OutByte, TxLostByte, InBufferEmpty];
+pub const CLOCK_CALLBACKS: [Callback; 2] = [InvalidRead, InvalidWrite];
+
+/// One step of a call: what the device did to the host, also where that failed; a callback; or at last what
+/// the call failed with, if it did.
 #[derive(Clone, Debug, PartialEq, Eq)]
-pub enum Event {
+pub enum Step {
     Sent(Vec<u8>),
     Flushed,
     Raised,
-    /// An invalid access of the clock. The Rust crate has no events that tell it.
-    #[allow(dead_code)]
-    Invalid,
+    Told(Callback),
     Full,
     NotRaised(&'static str),
     NotSent(String),
@@ -29,24 +42,44 @@ pub struct Faults {
 #[derive(Default)]
 pub struct Host {
     pub faults: Cell<Faults>,
-    pub events: RefCell<Vec<Event>>,
+    /// Those of one call, in order.
+    pub steps: RefCell<Vec<Step>>,
+    /// How often each callback was called, since the device was named.
+    told: Cell<[usize; PORT_CALLBACKS.len() + CLOCK_CALLBACKS.len()]>,
 }
 
 impl Host {
-    pub fn note(&self, event: Event) {
-        self.events.borrow_mut().push(event);
+    /// A device is named anew: its callbacks are counted from 0.
+    pub fn count_anew(&self) {
+        self.told.take();
+    }
+
+    pub fn tell(&self, callback: Callback) {
+        let mut told = self.told.get();
+        told[callback as usize] += 1;
+        self.told.set(told);
+        self.note(Step::Told(callback));
+    }
+
+    /// How often these were called.
+    pub fn told<const N: usize>(&self, callbacks: [Callback; N]) -> [usize; N] {
+        callbacks.map(|callback| self.told.get()[callback as usize])
+    }
+
+    pub fn note(&self, step: Step) {
+        self.steps.borrow_mut().push(step);
     }
 
     /// What a call came to, or none if it failed. That is noted.
-    pub fn outcome<T>(&self, outcome: Result<T, Event>) -> Option<T> {
+    pub fn outcome<T>(&self, outcome: Result<T, Step>) -> Option<T> {
         let may_fail = self.faults.get() != Faults::default();
         let note = |failure| {
             assert!(
-                may_fail || failure == Event::Full,
+                may_fail || failure == Step::Full,
                 "nothing here fails: {failure:?}"
             );
             assert!(
-                failure != Event::Full || self.raised() == 0,
+                failure != Step::Full || self.raised() == 0,
                 "refused, and raised"
             );
             self.note(failure);
@@ -56,18 +89,14 @@ impl Host {
 
     /// How often the line was raised.
     pub fn raised(&self) -> usize {
-        let events = self.events.borrow();
-        events
-            .iter()
-            .filter(|event| matches!(event, Event::Raised))
-            .count()
+        raises_in(&self.steps.borrow())
     }
 
     /// The byte sent, if one was.
     pub fn sent(&self) -> Option<u8> {
-        let events = self.events.borrow();
-        let mut sent = events.iter().flat_map(|event| match event {
-            Event::Sent(bytes) => &bytes[..],
+        let steps = self.steps.borrow();
+        let mut sent = steps.iter().flat_map(|step| match step {
+            Step::Sent(bytes) => &bytes[..],
             _ => &[],
         });
         let byte = sent.next();
@@ -77,23 +106,27 @@ impl Host {
 
     pub fn raise(&self) -> Result<(), &'static str> {
         let fails = self.faults.get().line.get(self.raised()) == Some(&true);
-        self.note(Event::Raised);
-        told(fails, "the line is cut")
+        self.note(Step::Raised);
+        unless(fails, "the line is cut")
     }
 
     pub fn send(&self, bytes: &[u8]) -> io::Result<usize> {
-        self.note(Event::Sent(bytes.to_vec()));
-        told(self.faults.get().write, "the wire is cut").map_err(io::Error::other)?;
+        self.note(Step::Sent(bytes.to_vec()));
+        unless(self.faults.get().write, "the wire is cut").map_err(io::Error::other)?;
         Ok(bytes.len())
     }
 
     pub fn flush(&self) -> io::Result<()> {
-        self.note(Event::Flushed);
-        told(self.faults.get().flush, "the wire is clogged").map_err(io::Error::other)
+        self.note(Step::Flushed);
+        unless(self.faults.get().flush, "the wire is clogged").map_err(io::Error::other)
     }
 }
 
-fn told(fails: bool, why: &'static str) -> Result<(), &'static str> {
+pub fn raises_in(steps: &[Step]) -> usize {
+    steps.iter().filter(|step| **step == Step::Raised).count()
+}
+
+fn unless(fails: bool, why: &'static str) -> Result<(), &'static str> {
     match fails {
         true => Err(why),
         false => Ok(()),

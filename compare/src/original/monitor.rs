@@ -1,15 +1,15 @@
 // A monitor's use of the three devices, as the judge asks for them. It is included where `api` is vm-superio or a
-// crate with its API, and not a word in it may depend on which. Beside it stand `ClockEvents`, which are told of a
-// clock's invalid accesses, and `clock_events`, which makes them.
+// crate with its API, and not a word in it may depend on which. Beside it stands events.rs, with what a port and a
+// clock tell their events to.
 
 use std::io::{self, Write};
 use std::rc::Rc;
 
-use api::serial::{Error, NoEvents};
-use judge::devices::{self, ClockState, Devices, Raised, SerialState};
+use api::serial::Error;
+use judge::devices::{self, ClockCounters, ClockState, Devices, PortCounters, Raised, SerialState};
 use told_time::time::tell;
 
-use crate::host::{Event, Host};
+use crate::host::{Faults, Host, Step, CLOCK_CALLBACKS, PORT_CALLBACKS};
 
 /// What a device has of its host.
 pub struct Wire(Rc<Host>);
@@ -36,12 +36,27 @@ impl Write for Wire {
 struct Wired<T> {
     device: T,
     host: Rc<Host>,
+    /// Whether the device's own sink did not take the byte that `lost` will speak of.
+    lost_already: bool,
+    /// Said to be lost where the device's own sink had taken it, or nothing was sent: of these the device cannot
+    /// know.
+    lost_later: usize,
 }
 
 impl<T> Wired<T> {
+    fn named(host: &Rc<Host>, device: T) -> Box<Self> {
+        host.count_anew();
+        Box::new(Wired {
+            device,
+            host: host.clone(),
+            lost_already: false,
+            lost_later: 0,
+        })
+    }
+
     /// The device, for a call. What the host noted before is forgotten.
     fn call(&mut self) -> &mut T {
-        self.host.events.borrow_mut().clear();
+        self.host.steps.borrow_mut().clear();
         &mut self.device
     }
 }
@@ -50,37 +65,63 @@ pub struct Monitor(pub Rc<Host>);
 
 impl Devices for Monitor {
     fn serial(&mut self) -> Box<dyn devices::Serial> {
-        let host = self.0.clone();
-        let device = api::Serial::new(Wire(host.clone()), Wire(host.clone()));
-        Box::new(Wired { device, host })
+        let [line, sink] = [0, 1].map(|_| Wire(self.0.clone()));
+        let device = api::Serial::with_events(line, events(&self.0), sink);
+        Wired::named(&self.0, device)
     }
 
     fn clock(&mut self) -> Box<dyn devices::Clock> {
-        let host = self.0.clone();
-        let device = api::Rtc::with_events(clock_events(&host));
-        Box::new(Wired { device, host })
+        let device = api::Rtc::with_events(events(&self.0));
+        Wired::named(&self.0, device)
     }
 
     fn i8042(&mut self) -> Box<dyn devices::I8042> {
-        let host = self.0.clone();
-        let device = api::I8042Device::new(Wire(host.clone()));
-        Box::new(Wired { device, host })
+        let device = api::I8042Device::new(Wire(self.0.clone()));
+        Wired::named(&self.0, device)
     }
 }
 
-fn failure(error: Error<&'static str>) -> Event {
+fn failure(error: Error<&'static str>) -> Step {
     match error {
-        Error::Trigger(why) => Event::NotRaised(why),
-        Error::IOError(why) => Event::NotSent(why.to_string()),
-        Error::FullFifo => Event::Full,
+        Error::Trigger(why) => Step::NotRaised(why),
+        Error::IOError(why) => Step::NotSent(why.to_string()),
+        Error::FullFifo => Step::Full,
     }
 }
 
-impl devices::Serial for Wired<api::Serial<Wire, NoEvents, Wire>> {
+impl devices::Serial for Wired<api::Serial<Wire, Events, Wire>> {
     fn write(&mut self, offset: u8, value: u8) -> (Option<u8>, Raised) {
         let done = self.call().write(offset, value);
         self.host.outcome(done.map_err(failure));
         (self.host.sent(), self.host.raised())
+    }
+
+    /// The sink fails, so that the device itself tells of the loss, and the interrupt is raised all the same.
+    /// It fails as it is given the byte, or as it is flushed.
+    fn write_to_lose(&mut self, offset: u8, value: u8) -> (Option<u8>, Raised) {
+        let faults = Faults {
+            write: value & 1 == 0,
+            flush: value & 1 == 1,
+            ..Faults::default()
+        };
+        self.host.faults.set(faults);
+        let written = self.write(offset, value);
+        self.host.faults.set(Faults::default());
+        self.lost_already = written.0.is_some();
+        written
+    }
+
+    /// Where the device's own sink did not take the byte, the device has told so. Else the loss is counted here.
+    fn lost(&mut self) {
+        if !std::mem::take(&mut self.lost_already) {
+            self.lost_later += 1;
+        }
+    }
+
+    /// Of a byte that goes out the device tells that it was sent, or that it was lost.
+    fn counters(&self) -> PortCounters {
+        let [read, out, lost, empty] = self.host.told(PORT_CALLBACKS);
+        [read, out + lost, lost + self.lost_later, empty]
     }
 
     fn read(&mut self, offset: u8) -> (u8, Raised) {
@@ -106,11 +147,11 @@ impl devices::Serial for Wired<api::Serial<Wire, NoEvents, Wire>> {
         SerialState { registers, buffer }
     }
 
-    /// Where the state is not brought back the port stays.
+    /// Where the state is not brought back the port stays. The events go on.
     fn restore(&mut self, state: &SerialState) -> Option<Raised> {
         let [line, sink] = [0, 1].map(|_| Wire(self.host.clone()));
-        self.call();
-        let restored = api::Serial::from_state(&port_state(state), line, NoEvents, sink);
+        let events = self.call().events().clone();
+        let restored = api::Serial::from_state(&port_state(state), line, events, sink);
         self.device = self.host.outcome(restored.map_err(failure))?;
         Some(self.host.raised())
     }
@@ -140,17 +181,21 @@ pub fn port_state(state: &SerialState) -> api::SerialState {
     written
 }
 
-impl devices::Clock for Wired<api::Rtc<ClockEvents>> {
+impl devices::Clock for Wired<api::Rtc<Events>> {
     fn write(&mut self, now: u64, offset: u16, data: &[u8; 4]) -> bool {
         tell(now);
         self.call().write(offset, data);
-        self.host.events.borrow().is_empty()
+        self.host.steps.borrow().is_empty()
     }
 
     fn read(&mut self, now: u64, offset: u16, data: &mut [u8; 4]) -> bool {
         tell(now);
         self.call().read(offset, data);
-        self.host.events.borrow().is_empty()
+        self.host.steps.borrow().is_empty()
+    }
+
+    fn counters(&self) -> ClockCounters {
+        self.host.told(CLOCK_CALLBACKS)
     }
 
     fn state(&self) -> ClockState {
@@ -164,8 +209,10 @@ impl devices::Clock for Wired<api::Rtc<ClockEvents>> {
         }
     }
 
+    /// The events go on.
     fn restore(&mut self, state: &ClockState) {
-        self.device = api::Rtc::from_state(&clock_state(state), clock_events(&self.host));
+        let events = self.device.events().clone();
+        self.device = api::Rtc::from_state(&clock_state(state), events);
     }
 }
 
@@ -182,7 +229,7 @@ pub fn clock_state(state: &ClockState) -> api::RtcState {
 impl devices::I8042 for Wired<api::I8042Device<Wire>> {
     fn write(&mut self, offset: u8, value: u8) -> bool {
         let done = self.call().write(offset, value);
-        self.host.outcome(done.map_err(Event::NotRaised));
+        self.host.outcome(done.map_err(Step::NotRaised));
         self.host.raised() > 0
     }
 

@@ -7,6 +7,7 @@ use mathlib.Core.List.{List, [], _∷_}
 use lib.Dec.{eqb, ltb}
 use lib.IntN.{ℤ, pos, _-ℤ_}
 use lib.ListN.{length, getD}
+use Rattle.common.specs.Answer.{refusedBit}
 use Rattle.common.specs.Bytes.{bytesOf}
 use Rattle.clock.specs.Registers.{Clock, fresh, Reply, says, refused, Change, becomes, ignored}
 
@@ -49,7 +50,7 @@ pub record Inits (words : List ℕ) : Type 0 where
 -- ---- Answers: 0 to an access that was valid, this to one that was refused. Every other bit is 0.
 
 abbrev pub refusal : ℕ
-refusal = 0x1_0000
+refusal = refusedBit
 
 -- ---- A read
 

@@ -1,6 +1,7 @@
 // A PL031 real time clock that lies in eight words of the caller's memory: four registers, how many seconds the clock is ahead
 // of the host's time, a signed number of 64 bits in two halves, and two spare words. Any eight words are some clock, so no state
 // is refused. The host hands its time to each access; nothing here asks for it.
+use common::answer::REFUSED;
 ghost use mathlib.Core.Path.{_≡_};
 ghost use mathlib.Core.List.{[], _∷_};
 ghost use Prim.Native.Nat.{_-_, _/_, _%_, _^_, _≤_};
@@ -34,8 +35,6 @@ pub const SPARE_LAST: usize = 7;
 // ---- Answers
 
 const VALID: u32 = 0;
-
-pub const REFUSED: u32 = 0x1_0000;
 
 // ---- The registers' offsets, by the manual's names
 

@@ -10,7 +10,8 @@ use Rattle.common.specs.Bytes.{valueOf}
 use Rattle.clock.specs.Registers.{Clock, Reply, Change, readOf, writeOf}
 use Rattle.clock.specs.Layout.{clockOf, spareOf, refusal, bytesAfter, readAnswer, clockAfter, writeAnswer}
 use Rattle.clock_saved.specs.Reachable.{ReachableWords}
-use Rattle.words.specs.Decimal.{numberOf}
+use Rattle.counters.specs.Counters as counters
+use Rattle.words.specs.Decimal.{numberOf, nextDecimal}
 use Rattle.words.specs.Hex.{byteAt, digitsOf, wordDigits}
 use Rattle.words.specs.Pattern.{fitsOf, beginsLike}
 use Rattle.words.specs.Put.{Puts}
@@ -40,7 +41,7 @@ wordsIn line = wordAt line 8 ∷ wordAt line 34 ∷ wordAt line 43 ∷ wordAt li
 pub data Asks : Type 0 where
   read write : ℕ → List ℕ → Asks
   setTime : ℕ → Asks
-  showState save : Asks
+  showState showCounters save : Asks
   restore : List ℕ → Asks
   nothing : Asks
 
@@ -58,12 +59,15 @@ asksSaved clocks line =
     (cond (fitsOf (text "restore") line) (asksKept clocks)
     (cond (fitsOf (text "restore LLLLLLLL OOOOOOOOOOOOOOOO MMMMMMMM KKKKKKKK RRRRRRRR") line) (restore (wordsIn line)) nothing))
 
-unfoldable pub asks : Clocks → List ℕ → Asks
-asks clocks line =
+unfoldable pub asksClock : Clocks → List ℕ → Asks
+asksClock clocks line =
     cond (fitsOf (text "r OOOO BBBBBBBB") line) (read (offsetIn line) (bytesIn line))
     (cond (fitsOf (text "w OOOO BBBBBBBB") line) (write (offsetIn line) (bytesIn line))
     (cond (beginsLike (text "now ") line) (asksTime (numberOf (drop 4 line)))
     (cond (fitsOf (text "state") line) showState (asksSaved clocks line))))
+
+unfoldable pub asks : Clocks → List ℕ → Asks
+asks clocks line = cond (fitsOf (text "counters") line) showCounters (asksClock clocks line)
 
 -- ---- What is said
 
@@ -98,11 +102,16 @@ stateSays name words =
 abbrev pub restoreSays : Bool → List ℕ
 restoreSays reached = cond reached (text "restore reached\n") (text "restore unreached\n")
 
+-- Invalid reads and invalid writes since the clock was named.
+abbrev pub countersSay : counters.Clock → List ℕ
+countersSay c = text "counters" ++ nextDecimal (c .invalidReads) ++ nextDecimal (c .invalidWrites) ++ text "\n"
+
 abbrev pub says : Asks → Clocks → Bool → List ℕ
 says (read offset bytes) clocks reached = readSays (readOf (clockOf (clocks .clock)) (clocks .time) offset) bytes
 says (write offset bytes) clocks reached = writeSays (writeOf (clockOf (clocks .clock)) (clocks .time) offset (valueOf bytes))
 says (setTime t) clocks reached = text "now\n"
 says showState clocks reached = stateSays (text "state") (clocks .clock)
+says showCounters clocks reached = countersSay (counters.clockOf (clocks .counters))
 says save clocks reached = stateSays (text "save") (clocks .clock)
 says (restore saved) clocks reached = restoreSays reached
 says nothing clocks reached = text "?\n"
@@ -114,6 +123,7 @@ Tells (read offset bytes) reached = Unit {0}
 Tells (write offset bytes) reached = Unit {0}
 Tells (setTime t) reached = Unit {0}
 Tells showState reached = Unit {0}
+Tells showCounters reached = Unit {0}
 Tells save reached = Unit {0}
 Tells nothing reached = Unit {0}
 
@@ -124,6 +134,7 @@ clockThen (read offset bytes) clock time = clock
 clockThen (write offset bytes) clock time = clockAfter (writeOf clock time offset (valueOf bytes)) clock
 clockThen (setTime t) clock time = clock
 clockThen showState clock time = clock
+clockThen showCounters clock time = clock
 clockThen save clock time = clock
 clockThen (restore saved) clock time = clockOf saved
 clockThen nothing clock time = clock
@@ -133,6 +144,7 @@ spareThen (read offset bytes) spare = spare
 spareThen (write offset bytes) spare = spare
 spareThen (setTime t) spare = spare
 spareThen showState spare = spare
+spareThen showCounters spare = spare
 spareThen save spare = spare
 spareThen (restore saved) spare = spareOf saved
 spareThen nothing spare = spare
@@ -142,6 +154,7 @@ timeThen (read offset bytes) time = time
 timeThen (write offset bytes) time = time
 timeThen (setTime t) time = t
 timeThen showState time = time
+timeThen showCounters time = time
 timeThen save time = time
 timeThen (restore saved) time = time
 timeThen nothing time = time
@@ -151,9 +164,23 @@ isSave (read offset bytes) = false
 isSave (write offset bytes) = false
 isSave (setTime t) = false
 isSave showState = false
+isSave showCounters = false
 isSave save = true
 isSave (restore saved) = false
 isSave nothing = false
+
+-- What is counted: the answers to reads and writes.
+abbrev pub countedThen : Asks → Clocks → counters.Clock → counters.Clock
+countedThen (read offset bytes) clocks c =
+    counters.clockAfter c (counters.read (readAnswer (readOf (clockOf (clocks .clock)) (clocks .time) offset)))
+countedThen (write offset bytes) clocks c =
+    counters.clockAfter c (counters.write (writeAnswer (writeOf (clockOf (clocks .clock)) (clocks .time) offset (valueOf bytes))))
+countedThen (setTime t) clocks c = c
+countedThen showState clocks c = c
+countedThen showCounters clocks c = c
+countedThen save clocks c = c
+countedThen (restore saved) clocks c = c
+countedThen nothing clocks c = c
 
 -- What a line asks for was answered.
 pub record Answers (asked : Asks) (clocks : Clocks) (out : List ℕ) (at : ℕ) (r : Said) (out′ : List ℕ) : Type 0 where
@@ -165,4 +192,5 @@ pub record Answers (asked : Asks) (clocks : Clocks) (out : List ℕ) (at : ℕ) 
   pub time : r .clocks .time ≡ timeThen asked (clocks .time)
   pub kept : r .clocks .kept ≡ cond (isSave asked) (clocks .clock) (clocks .kept)
   pub keeps : r .clocks .keeps ≡ (isSave asked || clocks .keeps)
+  pub counted : counters.clockOf (r .clocks .counters) ≡ countedThen asked clocks (counters.clockOf (clocks .counters))
   pub short : r .put ≤ at + 4096

@@ -2,7 +2,10 @@
 mod saved;
 
 use clock::Clock;
-use clock::REFUSED;
+use common::answer::REFUSED;
+use counters::ClockCounters;
+use counters::INVALID_READS;
+use counters::INVALID_WRITES;
 use words::Block;
 use words::decimal;
 use words::decimal::Number;
@@ -19,19 +22,22 @@ ghost use mathlib.Core.Bool.{false};
 ghost use mathlib.Core.List.{_++_};
 ghost use lib.ListN.{length, drop};
 ghost use Rattle.clock.specs.Layout.{Inits};
+ghost use Rattle.counters.specs.Counters.{clockOf, freshClock};
 ghost use Rattle.words.specs.Decimal.{numberOf};
 ghost use Rattle.words.specs.Hex.{wordDigits};
 ghost use Rattle.words.specs.Put.{Puts};
 ghost use Rattle.words.specs.Text.{text};
-ghost use Rattle.clock_lines.specs.Answers.{Answers, asks, asksTime, read, write, showState, offsetIn, bytesIn};
-ghost use Rattle.clock_lines.specs.Answers.{fourDigits, readSaid, writeSaid, stateSays};
+ghost use Rattle.clock_lines.specs.Answers.{Answers, asks, asksClock, asksTime, read, write, showState, showCounters};
+ghost use Rattle.clock_lines.specs.Answers.{offsetIn, bytesIn, fourDigits, readSaid, writeSaid, stateSays, countersSay};
 
-// The clock and the host's time, and the clock that was saved last, if `keeps` says that one was.
+// The clock and the host's time, the clock that was saved last, if `keeps` says that one was, and what
+// was counted since the clock was named.
 pub struct Clocks {
     pub clock: Clock,
     pub time: u64,
     pub kept: Clock,
     pub keeps: bool,
+    pub counters: ClockCounters,
 }
 
 // The clocks after a line, and how much of `out` is used.
@@ -49,24 +55,59 @@ pub fn start() -> Clocks
         time: 0,
         kept: [0; 8],
         keeps: false,
+        counters: [0; 2],
     }
 }
 
-// Makes the clock a fresh one, at the time 0, and leaves what was saved.
+// Makes the clock a fresh one, at the time 0, with nothing counted, and leaves what was saved.
 pub fn begin(mut clocks: Clocks) -> Clocks
     ensures { λ r. ⌜ Inits (r .clock) × (r .time ≡ 0) ⌝ }
     ensures { λ r. ⌜ (r .kept ≡ clocks .kept) × (r .keeps ≡ clocks .keeps) ⌝ }
+    ensures { λ r. ⌜ clockOf (r .counters) ≡ freshClock ⌝ }
 {
     let mut clock = clocks.clock;
     clock::init(&mut clock);
     clocks.clock = clock;
     clocks.time = 0;
+    let mut counters = clocks.counters;
+    counters::clock_init(&mut counters);
+    clocks.counters = counters;
     clocks
 }
 
 pub fn answer(line: &[u8], clocks: Clocks, out: &mut Block, at: usize) -> Said
     requires { ⌜ at + 4096 ≤ 65536 ⌝ }
     ensures { λ r. ⌜ Answers (asks clocks (now (line .entry))) clocks (now (out .entry)) at r (now (out .exit)) ⌝ }
+{
+    if fits(line, b"counters") {
+        return show_counters(clocks, out, at);
+    }
+    answer_clock(line, clocks, out, at)
+}
+
+fn show_counters(clocks: Clocks, out: &mut Block, at: usize) -> Said
+    requires { ⌜ at + 4096 ≤ 65536 ⌝ }
+    ensures { λ r. ⌜ Answers (showCounters) clocks (now (out .entry)) at r (now (out .exit)) ⌝ }
+{
+    let counters = clocks.counters;
+    let put = put_counters(&counters, out, at);
+    Said { clocks, put }
+}
+
+fn put_counters(counters: &ClockCounters, out: &mut Block, at: usize) -> usize
+    requires { ⌜ at + 4096 ≤ 65536 ⌝ }
+    ensures { λ r. ⌜ Puts (now (out .entry)) at (countersSay (clockOf (now (counters .entry)))) (now (out .exit)) r ⌝ }
+    ensures { λ r. ⌜ r ≤ at + 4096 ⌝ }
+{
+    let a = put(out, at, b"counters");
+    let b = decimal::put_next(out, a, counters[INVALID_READS]);
+    let c = decimal::put_next(out, b, counters[INVALID_WRITES]);
+    put(out, c, b"\n")
+}
+
+fn answer_clock(line: &[u8], clocks: Clocks, out: &mut Block, at: usize) -> Said
+    requires { ⌜ at + 4096 ≤ 65536 ⌝ }
+    ensures { λ r. ⌜ Answers (asksClock clocks (now (line .entry))) clocks (now (out .entry)) at r (now (out .exit)) ⌝ }
 {
     if fits(line, b"r OOOO BBBBBBBB") {
         return read(clocks, offset_in(line), bytes_in(line), out, at);
@@ -102,12 +143,15 @@ fn bytes_in(line: &[u8]) -> [u8; 4]
     ]
 }
 
-fn read(clocks: Clocks, offset: u16, mut bytes: [u8; 4], out: &mut Block, at: usize) -> Said
+fn read(mut clocks: Clocks, offset: u16, mut bytes: [u8; 4], out: &mut Block, at: usize) -> Said
     requires { ⌜ at + 4096 ≤ 65536 ⌝ }
     ensures { λ r. ⌜ Answers (read offset bytes) clocks (now (out .entry)) at r (now (out .exit)) ⌝ }
 {
     let clock = clocks.clock;
+    let mut counters = clocks.counters;
     let answer = clock::read(&clock, offset, clocks.time, &mut bytes);
+    counters::clock_count_read(&mut counters, answer);
+    clocks.counters = counters;
     let put = put_read(out, at, bytes, answer != REFUSED);
     Said { clocks, put }
 }
@@ -143,8 +187,11 @@ fn write(mut clocks: Clocks, offset: u16, bytes: [u8; 4], out: &mut Block, at: u
     ensures { λ r. ⌜ Answers (write offset bytes) clocks (now (out .entry)) at r (now (out .exit)) ⌝ }
 {
     let mut clock = clocks.clock;
+    let mut counters = clocks.counters;
     let answer = clock::write(&mut clock, offset, clocks.time, &bytes);
+    counters::clock_count_write(&mut counters, answer);
     clocks.clock = clock;
+    clocks.counters = counters;
     let put = put_write(out, at, answer != REFUSED);
     Said { clocks, put }
 }
@@ -193,17 +240,17 @@ fn state(name: &[u8], clock: &Clock, out: &mut Block, at: usize) -> usize
     ensures { λ r. ⌜ r ≤ at + 4096 ⌝ }
 {
     let a = put(out, at, name);
-    let b = put_next(out, a, clock[0]);
-    let c = put_next(out, b, clock[5]);
+    let b = put_next_word(out, a, clock[0]);
+    let c = put_next_word(out, b, clock[5]);
     let d = put_word(out, c, clock[4]);
-    let e = put_next(out, d, clock[1]);
-    let f = put_next(out, e, clock[2]);
-    let g = put_next(out, f, clock[3]);
+    let e = put_next_word(out, d, clock[1]);
+    let f = put_next_word(out, e, clock[2]);
+    let g = put_next_word(out, f, clock[3]);
     put(out, g, b"\n")
 }
 
 // Puts a space and the digits of a word.
-fn put_next(out: &mut Block, at: usize, word: u32) -> usize
+fn put_next_word(out: &mut Block, at: usize, word: u32) -> usize
     requires { ⌜ at + 9 ≤ 65536 ⌝ }
     ensures { λ r. ⌜ Puts (now (out .entry)) at (text " " ++ wordDigits word) (now (out .exit)) r ⌝ }
     ensures { λ r. ⌜ r ≤ at + 9 ⌝ }

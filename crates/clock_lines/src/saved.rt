@@ -3,7 +3,7 @@ use crate::Clocks;
 use crate::Said;
 use crate::state;
 use clock::Clock;
-use clock_saved::REACHABLE;
+use common::answer::REACHABLE;
 use words::Block;
 use words::hex::byte_at;
 use words::pattern::fits;

@@ -9,6 +9,7 @@ use clock::RAW_STATUS;
 use clock::eight_words;
 use clock::join;
 use clock::spare_is_zero;
+use common::answer::REACHABLE;
 ghost use mathlib.Core.Path.{_≡_};
 ghost use mathlib.Core.Bool.{true};
 ghost use mathlib.Core.Logic.{_↔_};
@@ -60,9 +61,6 @@ fn is_reachable(saved: &Clock) -> bool
 }
 
 // ---- The entry points
-
-// The answer of a restore, or 0.
-pub const REACHABLE: u32 = 0x4_0000;
 
 // Copies the clock.
 pub fn save(clock: &Clock, saved: &mut Clock)

@@ -1,3 +1,4 @@
 pub mod Booleans
 pub mod Bytes
 pub mod EveryByte
+pub mod Words

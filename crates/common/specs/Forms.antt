@@ -1,5 +1,6 @@
 -- Why a form is refused, and the word that says so.
 use Prim.Native.Nat.{ℕ, _+_}
+use Rattle.common.specs.Answer.{refusedBit}
 
 pub data Reason : Type 0 where
   tooShort trailing version tooMany offset spare : Reason
@@ -13,4 +14,4 @@ reasonNumber offset = 5
 reasonNumber spare = 6
 
 abbrev pub refusalWord : Reason → ℕ
-refusalWord r = 0x1_0000 + reasonNumber r
+refusalWord r = refusedBit + reasonNumber r

@@ -1,1 +1,2 @@
-// No code: this crate is the definitions and laws on bits and lists that the devices' crates share.
+// What the devices' crates share: how an answer's word is laid out; the definitions and laws on bits and lists have no code.
+pub mod answer;

@@ -7,8 +7,9 @@ use pieces::State;
 use words::Block;
 ghost use Prim.Native.Nat.{_+_, _≤_};
 ghost use mathlib.Core.Path.{_≡_};
+ghost use mathlib.Core.Bool.{true};
 ghost use lib.ListN.{length};
-ghost use Rattle.exchange.specs.Came.{countOf};
+ghost use Rattle.exchange.specs.Came.{countOf, ReadsAfter, Filled, Exchanged};
 ghost use Rattle.pieces.specs.Pieces.{Sound, Answered};
 
 // A proved loop has to end. How often a signal interrupts a call, and how long the input is, nothing
@@ -80,6 +81,7 @@ fn read(space: &mut [u8]) -> Came
 fn read_after(held: &mut [u8], end: usize) -> Came
     requires { ⌜ end ≤ length (now held) ⌝ }
     ensures { λ r. ⌜ end + countOf r ≤ length (now (held .entry)) ⌝ }
+    ensures { λ r. ⌜ ReadsAfter (now (held .entry)) end (now (held .exit)) ⌝ }
 {
     read(&mut held[end..])
 }
@@ -95,6 +97,7 @@ fn fill(held: &mut Block, before: State) -> Next
     requires { ⌜ Sound before ⌝ }
     requires { ⌜ before .seen ≡ before .end ⌝ }
     ensures { λ r. ⌜ Sound (r .state) ⌝ }
+    ensures { λ r. ⌜ (r .more ≡ true → Filled (now (held .entry)) before (now (held .exit)) (r .state)) ⌝ }
 {
     let state = pieces::settle(held, before);
     match read_after(held, state.end) {
@@ -116,6 +119,7 @@ pub fn exchange(held: &mut Block, out: &Block, before: State) -> Next
     requires { ⌜ Sound before ⌝ }
     requires { ⌜ Answered before ⌝ }
     ensures { λ r. ⌜ Sound (r .state) ⌝ }
+    ensures { λ r. ⌜ (r .more ≡ true → Exchanged (now (held .entry)) before (now (held .exit)) (r .state)) ⌝ }
 {
     let mut state = before;
     let all: &[u8] = out;

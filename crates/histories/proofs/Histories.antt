@@ -9,7 +9,7 @@ use lib.ListN.{length, getD, take}
 use borrow.Author.Tests.{leb-true}
 use Rattle.serial.specs.Port.{Port}
 use Rattle.runs.specs.Run.{Op, Answer, step, run}
-use Rattle.runs.specs.Book.{bookOf, allAccepted, allDelivered}
+use Rattle.runs.specs.Accepted.{allAccepted, allDelivered}
 use Rattle.runs.specs.Status.{Truthful}
 use Rattle.runs.specs.Reachable.{Reachable}
 use Rattle.runs.specs.Reached.{OfBytes}
@@ -112,8 +112,8 @@ brings-back here saved = go (fits (saved .port))
 -- ---- No byte lost
 
 -- Of the history that counts: what waited at its beginning and then all that was accepted is all that was delivered and then what waits.
-pub conserved-across : (p : Port) (ds : List Deed) → let s = after (starts p) ds .here in let b = bookOf (s .origin) in
-    s .origin .waiting ++ allAccepted b (s .ops) (s .answers) ≡ allDelivered b (s .ops) (s .answers) ++ s .port .waiting
+pub conserved-across : (p : Port) (ds : List Deed) → let s = after (starts p) ds .here in
+    s .origin .waiting ++ allAccepted (s .ops) (s .answers) ≡ allDelivered (s .answers) ++ s .port .waiting
 conserved-across p ds =
     let s = after (starts p) ds .here in
     let k = as-if-run p ds in
@@ -183,18 +183,17 @@ take-first (suc k) (x ∷ a) b h = ap (λ (l : List ℕ). x ∷ l) (take-first k
 
 -- From a restored port the first bytes to be delivered are those that waited when it was saved ..
 pub first-delivered : (p : Port) (os : List Op) (k : ℕ) → k ≤ length (p .waiting)
-    → let d = allDelivered (bookOf p) os (run p os .answers) in
+    → let d = allDelivered (run p os .answers) in
     k ≤ length d → take k d ≡ take k (p .waiting)
 first-delivered p os k w h =
     let r = run p os in
-    let b = bookOf p in
-    sym (take-first k (allDelivered b os (r .answers)) (r .port .waiting) h)
+    sym (take-first k (allDelivered (r .answers)) (r .port .waiting) h)
     ∙ ap (take k) (sym (conserved p os))
-    ∙ take-first k (p .waiting) (allAccepted b os (r .answers)) w
+    ∙ take-first k (p .waiting) (allAccepted os (r .answers)) w
 
 -- .. so those of them that had been delivered since are delivered again, the same and in the same order. What was accepted since then is
 -- not there: from then on `conserved` speaks of what waited when it was saved and of what is accepted afterwards.
 pub delivered-again : (p : Port) (os more : List Op) (k : ℕ) → k ≤ length (p .waiting)
-    → let a = allDelivered (bookOf p) os (run p os .answers) in let b = allDelivered (bookOf p) more (run p more .answers) in
+    → let a = allDelivered (run p os .answers) in let b = allDelivered (run p more .answers) in
     k ≤ length a → k ≤ length b → take k b ≡ take k a
 delivered-again p os more k w h g = first-delivered p more k w g ∙ sym (first-delivered p os k w h)

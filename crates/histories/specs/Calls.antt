@@ -6,6 +6,7 @@ use mathlib.Core.List.{List, [], _∷_}
 use lib.ListN.{length, getD, take}
 use Rattle.serial.specs.Port.{Port}
 use Rattle.serial.specs.Layout.{portOf}
+use Rattle.common.specs.Answer.{refusedBit, oneRaise}
 use Rattle.runs.specs.Run.{Op, step}
 use Rattle.play.specs.Play.{word, Does}
 use Rattle.serial_saved.specs.Saved.{savedOf, Restore, restoreOf}
@@ -47,8 +48,8 @@ pub data Called : Memory → List SavedMemory → List Deed → Memory → List 
 
 -- What a restore's word says of refusal and raises.
 pub record Tells (o : Restore) (r : ℕ) : Type 0 where
-  pub refusal : r / 0x1_0000 % 2 ≡ cond (o .refused) 1 0
-  pub raises : r / 0x100_0000 ≡ o .raises
+  pub refusal : r / refusedBit % 2 ≡ cond (o .refused) 1 0
+  pub raises : r / oneRaise ≡ o .raises
 
 -- The words of the deeds by the definition: an operation's is its answer's, that of saving is how many bytes wait.
 abbrev pub Heard : Host → List Deed → List ℕ → Type 0

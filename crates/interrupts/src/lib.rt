@@ -1,7 +1,7 @@
 // IER, IIR and the interrupt line. Numbers go in and numbers come out: this crate knows no port and
 // no memory. `waits` says whether a byte waits.
 ghost use mathlib.Core.Path.{_≡_};
-ghost use mathlib.Core.Bool.{Bool, true, false, cond};
+ghost use mathlib.Core.Bool.{Bool, true, false};
 ghost use Prim.Native.Nat.{ℕ, _≤_};
 ghost use Rattle.interrupts.specs.Interrupts.{receivedData, transmitterEmpty, newly};
 ghost use Rattle.interrupts.specs.Interrupts.{ierStored, isActive, isHigh, code, settled};

@@ -2,7 +2,8 @@
 use Prim.Native.Nat.{ℕ, _≤_}
 use mathlib.Core.Path.{_≡_}
 use native.Mathlib.Omega.{arith}
-use Rattle.pieces.specs.Pieces.{Sound, Cuts}
+use Rattle.pieces.specs.Inside.{Cuts}
+use Rattle.pieces.specs.Pieces.{Sound}
 use Rattle.pieces.specs.declared.State.{State}
 use Rattle.pieces.specs.declared.cut.Cut.{Cut}
 

@@ -7,11 +7,13 @@ use Rattle.clock.specs.Layout.{Inits}
 use Rattle.clock_lines.specs.Answers as clock
 use Rattle.clock_lines.specs.declared.Clocks as clock-memory
 use Rattle.clock_lines.specs.declared.Said as clock-said
+use Rattle.counters.specs.Counters.{freshSerial, clockOf, freshClock}
 use Rattle.pieces.specs.declared.cut.Kind.{Kind}
 use Rattle.pieces.specs.declared.cut.Kind.the-variants.{Silent, TooLong, Whole}
 use Rattle.reset_lines.specs.Reset.{resetAnswer}
 use Rattle.serial.specs.Calls.{MakesFresh}
 use Rattle.serial_lines.specs.Answers as serial
+use Rattle.serial_lines.specs.Counted.{AnswersPorts, countersIn}
 use Rattle.serial_lines.specs.declared.Ports as serial-memory
 use Rattle.serial_lines.specs.declared.Said as serial-said
 use Rattle.words.specs.Pattern.{fitsOf}
@@ -56,23 +58,26 @@ plainSays line Ports fresh = text "?\n"
 
 -- ---- The devices that have a state
 
--- The clock was named: it is fresh, and its time is 0; what was saved stays.
+-- The clock was named: it is fresh, its time is 0, and nothing is counted; what was saved stays.
 pub record BeginsClock (clocks : clock-memory.Clocks) (out : List ℕ) (at : ℕ) (r : clock-said.Said) (out′ : List ℕ) : Type 0 where
   pub said : Puts out at (text "clock\n") out′ (r .put)
   pub fresh : Inits (r .clocks .clock)
   pub time : r .clocks .time ≡ 0
   pub kept : r .clocks .kept ≡ clocks .kept
   pub keeps : r .clocks .keeps ≡ clocks .keeps
+  pub counted : clockOf (r .clocks .counters) ≡ freshClock
 
 -- Any other line is answered as the clock's lines are.
 abbrev pub AnswersClock : List ℕ → clock-memory.Clocks → List ℕ → ℕ → clock-said.Said → List ℕ → Type 0
 AnswersClock line clocks out at r out′ = clock.Answers (clock.asks clocks line) clocks out at r out′
 
--- The serial port was named, or was not.
+-- The serial port was named: it is fresh, and nothing is counted; what was saved stays.
 pub record BeginsSerial (ports : serial-memory.Ports) (out : List ℕ) (at : ℕ) (r : serial-said.Said) (out′ : List ℕ) : Type 0 where
   pub said : Puts out at (text "serial\n") out′ (r .put)
-  pub fresh : MakesFresh (r .ports .regs) (r .ports .pos)
-  pub kept : serial.Keeps false ports (r .ports)
+  pub fresh : MakesFresh (r .ports .held .regs) (r .ports .held .pos)
+  pub kept : serial.Keeps false (ports .held) (r .ports .held)
+  pub counted : countersIn (r .ports) ≡ freshSerial
 
+-- Any other line is answered as the serial port's lines are.
 abbrev pub AnswersSerial : List ℕ → serial-memory.Ports → List ℕ → ℕ → serial-said.Said → List ℕ → Type 0
-AnswersSerial line ports out at r out′ = serial.AnswersLine line ports out at (r .ports) out′ (r .put)
+AnswersSerial line ports out at r out′ = AnswersPorts line ports out at (r .ports) out′ (r .put)

@@ -1,4 +1,5 @@
 // The current device, and the line that is handed to it.
+use clock::eight_words;
 use clock_lines::Clocks;
 use pieces::cut::Kind;
 use serial_lines::Ports;
@@ -9,6 +10,7 @@ use words::put::unknown;
 ghost use Prim.Native.Nat.{_+_, _≤_};
 ghost use mathlib.Core.Path.{_≡_};
 ghost use mathlib.Core.Bool.{true, false};
+ghost use Rattle.clock.specs.Layout.{Words};
 ghost use Rattle.lines.specs.Handing.{namedBy, whoseLine, namedTask, taskOf, plainSays};
 ghost use Rattle.lines.specs.Handing.{BeginsClock, AnswersClock, BeginsSerial, AnswersSerial};
 ghost use Rattle.words.specs.Put.{Puts};
@@ -139,6 +141,7 @@ pub fn plain(line: &[u8], whose: Whose, fresh: bool, out: &mut Block, at: usize)
     }
 }
 
+// `eight_words` tells the proof that a clock's words have 32 bits, and does nothing.
 pub fn clock(
     line: &[u8],
     fresh: bool,
@@ -150,13 +153,21 @@ pub fn clock(
     ensures { λ r. ⌜ r .put ≤ at + 4096 ⌝ }
     ensures { λ r. ⌜ (fresh ≡ true → BeginsClock clocks (now (out .entry)) at r (now (out .exit))) ⌝ }
     ensures { λ r. ⌜ (fresh ≡ false → AnswersClock (now (line .entry)) clocks (now (out .entry)) at r (now (out .exit))) ⌝ }
+    ensures { λ r. ⌜ Words (r .clocks .clock) ⌝ }
 {
     if fresh {
         let clocks = clock_lines::begin(clocks);
+        let clock = clocks.clock;
+        eight_words(&clock);
         let put = put(out, at, b"clock\n");
         return clock_lines::Said { clocks, put };
     }
-    clock_lines::answer(line, clocks, out, at)
+    let said = clock_lines::answer(line, clocks, out, at);
+    let put = said.put;
+    let after = said.clocks;
+    let clock = after.clock;
+    eight_words(&clock);
+    clock_lines::Said { clocks: after, put }
 }
 
 pub fn serial(

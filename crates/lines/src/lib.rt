@@ -12,10 +12,12 @@ use devices::Whose;
 use pieces::State;
 use pieces::cut;
 use words::Block;
-ghost use Prim.Native.Nat.{_+_, _-_, _≤_, _<_};
+ghost use Prim.Native.Nat.{_-_, _<_};
 ghost use mathlib.Core.Path.{_≡_};
-ghost use lib.ListN.{length};
-ghost use Rattle.pieces.specs.Pieces.{Sound, Answered};
+ghost use mathlib.Core.Bool.{true};
+ghost use Rattle.pieces.specs.Pieces.{Sound, Answered, startOf};
+ghost use Rattle.lines.specs.Answering.{First};
+ghost use Rattle.lines.specs.Inside.{Turns};
 
 // Answers stop once more than this is used of `out`: no answer is longer than 4,096 bytes.
 const ENOUGH: usize = 61440;
@@ -29,6 +31,8 @@ pub struct Turn {
 pub fn start() -> Turn
     ensures { λ r. ⌜ Sound (r .state) ⌝ }
     ensures { λ r. ⌜ Answered (r .state) ⌝ }
+    ensures { λ r. ⌜ First (r .devices) ⌝ }
+    ensures { λ r. ⌜ r .state ≡ startOf ⌝ }
 {
     Turn {
         devices: Devices {
@@ -45,6 +49,8 @@ pub fn answer(held: &Block, devices: Devices, out: &mut Block, before: State) ->
     requires { ⌜ Sound before ⌝ }
     ensures { λ r. ⌜ Sound (r .state) ⌝ }
     ensures { λ r. ⌜ Answered (r .state) ⌝ }
+    ensures { λ r. ⌜ (r .state .full ≡ true → 61440 < r .state .put) ⌝ }
+    ensures { λ r. ⌜ Turns (now (held .entry)) before devices (now (out .entry)) (now (out .exit)) (r .state) (r .devices) ⌝ }
 {
     let all: &[u8] = held;
     let end = before.end;

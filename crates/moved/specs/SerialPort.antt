@@ -4,6 +4,7 @@ use mathlib.Core.Path.{_≡_}
 use mathlib.Core.Bool.{Bool, true}
 use mathlib.Core.List.{List}
 use lib.ListN.{length, take}
+use Rattle.common.specs.Answer.{refusedBit}
 use Rattle.serial.specs.Layout.{portOf, spareRegisters}
 use Rattle.runs.specs.Run.{Op, run}
 use Rattle.serial_saved.specs.Calls.{Saves, Restores}
@@ -43,7 +44,7 @@ pub record Arrives (form regs′ pos′ ring′ : List ℕ) : Type 0 where
 -- is the same.
 pub record Same (regs pos ring form regs′ pos′ ring′ : List ℕ) (a : Arrives form regs′ pos′ ring′) : Type 0 where
   pub read : a .count ≡ length (portOf regs pos ring .waiting)
-  pub restored : a .word / 0x1_0000 % 2 ≡ 0
+  pub restored : a .word / refusedBit % 2 ≡ 0
   pub registers : regs′ ≡ regs
   pub port : portOf regs′ pos′ ring′ ≡ portOf regs pos ring
   pub runs : (os : List Op) → run (portOf regs′ pos′ ring′) os ≡ run (portOf regs pos ring) os

@@ -11,7 +11,6 @@ use lib.Dec.{eqb, ltb, lit≤, lit<}
 use borrow.Author.Tests.{eqb-true, ltb-false, lt-ltb}
 use Rattle.common.proofs.Booleans.{both-true}
 use Rattle.common.specs.Bits.{on}
-use Rattle.common.specs.Lists.{some}
 use Rattle.sidebyside.specs.Answers.{Said, says, silent, none, Answer, answers, refuses, Fits}
 use Rattle.sidebyside.specs.Runs.{Meets, deviceAfter, chipAfter}
 use Rattle.interrupts.specs.Interrupts.{receivedData, transmitterEmpty, ierStored, isHigh}
@@ -20,7 +19,7 @@ use Rattle.serial.specs.Port.{LCR, MCR, LSR, MSR, SCR, DLL, DLM, reserved, inpu
 use Rattle.serial.specs.Port as device
 use Rattle.pc16550d.specs.Chip.{Chip, Receiver, pin, modemStatus, depth, holding, arrives, arriveAll, fromLine, afterIir, writeIer}
 use Rattle.pc16550d.specs.Chip.{writeFcr, loads, transmits}
-use Rattle.pc16550d.specs.Chip.{writeMcr, changed, inputs, writeThr, rising, rises, Op, read, write, input, chipDoes}
+use Rattle.pc16550d.specs.Chip.{writeMcr, changed, writeThr, rising, Op, read, write, input, chipDoes}
 use Rattle.pc16550d.specs.Chip as chip
 use Rattle.pc16550d.specs.Compare.{Done, accessed, deviceDoes, chipOf, enables, Sound, Agrees, Row, reads, writes, serial-wide-mcr}
 use Rattle.pc16550d.specs.Compare.{receives, fed, pair, serial-transmitter-again, serial-line-overrun}

@@ -1,7 +1,7 @@
 -- How lines are cut off what is held, and which of them are to be answered.
 use Prim.Native.Nat.{ℕ, _+_, _-_}
 use mathlib.Core.Bool.{Bool, true, false, cond}
-use mathlib.Core.List.{List}
+use mathlib.Core.List.{List, [], _∷_, _++_}
 use lib.Dec.{eqb, ltb, leb}
 use lib.ListN.{length, getD, take, drop}
 use Rattle.bytes.specs.Bytes.{indexOf, slice}
@@ -12,6 +12,23 @@ use Rattle.pieces.specs.declared.cut.Kind.the-variants.{Silent, TooLong,
 -- A line may have so many characters.
 abbrev pub longest : ℕ
 longest = 8192
+
+-- ---- All lines of an input
+
+-- The lines that end in `bytes`, each at a newline (0x0a), and what stands behind the last of them. Of the first `line` has come before.
+unfoldable pub linesIn : List ℕ → List ℕ → List (List ℕ)
+linesIn line [] = []
+linesIn line (b ∷ bytes) = cond (eqb b 0x0a) (line ∷ linesIn [] bytes) (linesIn (line ++ (b ∷ [])) bytes)
+
+unfoldable pub restOf : List ℕ → List ℕ → List ℕ
+restOf line [] = line
+restOf line (b ∷ bytes) = cond (eqb b 0x0a) (restOf [] bytes) (restOf (line ++ (b ∷ [])) bytes)
+
+-- What stands behind the last newline is a line too.
+abbrev pub linesOf : List ℕ → List (List ℕ)
+linesOf input = linesIn [] input ++ (restOf [] input ∷ [])
+
+-- ---- One line of what is held
 
 -- Passed over: the rest of a line that was too long, an empty line, a comment (0x23 is `#`).
 unfoldable pub kindOf : List ℕ → Bool → Kind

@@ -1,9 +1,13 @@
--- Where the reading stands is sound: places within the two blocks.
-use Prim.Native.Nat.{ℕ, _+_, _-_, _≤_, _<_}
-use mathlib.Core.Bool.{false}
+-- Where the reading stands: places within the two blocks; and what is held after more was read.
+use Prim.Native.Nat.{ℕ, _+_, _≤_, _<_}
+use mathlib.Core.Bool.{true, false}
 use mathlib.Core.Path.{_≡_}
+use mathlib.Core.List.{List, []}
+use lib.ListN.{length}
+use Rattle.words.specs.Put.{Puts}
+use Rattle.pieces.specs.Cutting.{longest, bytesFrom}
+use Rattle.pieces.specs.Inside.{Settles, Closes}
 use Rattle.pieces.specs.declared.State.{State}
-use Rattle.pieces.specs.declared.cut.Cut.{Cut}
 
 -- The current line starts at `from`, and no newline stands between there and `seen`: so much of it is short. `end` bytes are held, and
 -- `put` bytes wait to be written.
@@ -18,12 +22,29 @@ pub record Sound (s : State) : Type 0 where
 pub record Answered (s : State) : Type 0 where
   pub all : s .full ≡ false → s .seen ≡ s .end
 
--- The line that starts at `from` ends within what is held, and more of that is searched than was before. What is searched of the next
--- one is short.
-pub record Cuts (from seen end : ℕ) (r : Cut) : Type 0 where
-  pub starts : from ≤ r .stop
-  pub stops : r .stop ≤ end
-  pub goes-on : seen < r .seen
-  pub searched : r .seen ≤ end
-  pub started : r .from ≤ r .seen
-  pub short : r .seen ≤ r .from + 8192
+-- `line` is what has come of the current line. It is held from its start to where it is searched; where the line was too long that is only
+-- its rest.
+pub record Stands (held : List ℕ) (s : State) (line : List ℕ) : Type 0 where
+  pub whole : s .passes ≡ false → line ≡ bytesFrom (s .from) (s .seen) held
+  pub long : s .passes ≡ true → longest < length line
+
+-- ---- Between two reads
+
+abbrev pub startOf : State
+startOf = record { from = 0; seen = 0; end = 0; put = 0; ended = false; passes = false; full = false }
+
+-- The answers that waited are written.
+abbrev pub writtenOf : State → State
+writtenOf s = record { from = s .from; seen = s .seen; end = s .end; put = 0; ended = s .ended; passes = s .passes; full = s .full }
+
+abbrev pub cameOf : State → ℕ → State
+cameOf s count =
+    record { from = s .from; seen = s .seen; end = s .end + count; put = s .put; ended = s .ended; passes = s .passes; full = s .full }
+
+-- The current line was moved to the front of the block of 65,536 bytes. Then `bytes` were read behind it, or the input has ended.
+pub data Fills (held : List ℕ) (s : State) : List ℕ → List ℕ → State → Type 0 where
+  read : {bytes held′ held″ : List ℕ} {s′ : State} → Settles held s held′ s′ → length held′ ≡ 65536
+      → Puts held′ (s′ .end) bytes held″ (s′ .end + length bytes)
+      → Fills held s bytes held″ (cameOf s′ (length bytes))
+  ended-here : {held′ held″ : List ℕ} {s′ s″ : State} → Settles held s held′ s′ → length held′ ≡ 65536 → Closes held′ s′ held″ s″
+      → Fills held s [] held″ s″

@@ -3,7 +3,7 @@ ghost use Prim.Native.Nat.{_+_, _≤_, _<_};
 ghost use lib.ListN.{length};
 ghost use mathlib.Core.Path.{_≡_};
 ghost use Rattle.pieces.specs.Cutting.{cutOf, kindOf};
-ghost use Rattle.pieces.specs.Pieces.{Cuts};
+ghost use Rattle.pieces.specs.Inside.{Cuts};
 
 // A line of more characters is answered `?` and not looked at.
 const LONGEST: usize = 8192;

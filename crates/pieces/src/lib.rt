@@ -2,10 +2,13 @@
 pub mod cut;
 
 use words::Block;
+use words::put::put;
 ghost use Prim.Native.Nat.{_+_, _-_, _≤_, _<_};
 ghost use mathlib.Core.Path.{_≡_};
-ghost use lib.ListN.{length};
-ghost use Rattle.pieces.specs.Pieces.{Sound, Answered};
+ghost use lib.ListN.{length, take};
+ghost use Rattle.pieces.specs.Cutting.{bytesFrom};
+ghost use Rattle.pieces.specs.Inside.{Settles, Closes};
+ghost use Rattle.pieces.specs.Pieces.{Sound, Answered, startOf, cameOf};
 
 // Where the reading stands. The current line starts at `from`, no newline stands between there and
 // `seen`, and `end` bytes are held; `ended` says that no more will come. `passes` says that the
@@ -25,6 +28,7 @@ pub struct State {
 pub fn start() -> State
     ensures { λ r. ⌜ Sound r ⌝ }
     ensures { λ r. ⌜ Answered r ⌝ }
+    ensures { λ r. ⌜ r ≡ startOf ⌝ }
 {
     State {
         from: 0,
@@ -43,6 +47,7 @@ pub fn settle(held: &mut Block, mut state: State) -> State
     requires { ⌜ state .seen ≡ state .end ⌝ }
     ensures { λ r. ⌜ Sound r ⌝ }
     ensures { λ r. ⌜ r .end ≤ 8192 ⌝ }
+    ensures { λ r. ⌜ Settles (now (held .entry)) state (now (held .exit)) r ⌝ }
 {
     let from = state.from;
     let count = state.end - from;
@@ -55,8 +60,9 @@ pub fn settle(held: &mut Block, mut state: State) -> State
     state
 }
 
-fn move_down(held: &mut Block, from: usize, count: usize)
-    requires { ⌜ from + count ≤ 65536 ⌝ }
+fn move_down(held: &mut [u8], from: usize, count: usize)
+    requires { ⌜ from + count ≤ length (now held) ⌝ }
+    ensures { λ r. ⌜ take count (now (held .exit)) ≡ bytesFrom from (from + count) (now (held .entry)) ⌝ }
 {
     let mut i = 0;
     while i < count {
@@ -70,6 +76,7 @@ pub fn came(mut state: State, count: usize) -> State
     requires { ⌜ Sound state ⌝ }
     requires { ⌜ state .end + count ≤ 65536 ⌝ }
     ensures { λ r. ⌜ Sound r ⌝ }
+    ensures { λ r. ⌜ r ≡ cameOf state count ⌝ }
 {
     state.end += count;
     state
@@ -80,10 +87,9 @@ pub fn close(held: &mut Block, mut state: State) -> State
     requires { ⌜ Sound state ⌝ }
     requires { ⌜ state .end < 65536 ⌝ }
     ensures { λ r. ⌜ Sound r ⌝ }
+    ensures { λ r. ⌜ Closes (now (held .entry)) state (now (held .exit)) r ⌝ }
 {
-    let end = state.end;
-    held[end] = b'\n';
-    state.end = end + 1;
+    state.end = put(held, state.end, b"\n");
     state.ended = true;
     state
 }

@@ -9,7 +9,8 @@ use Rattle.common.specs.Lists.{some}
 use Rattle.common.specs.Bytes.{Bytes}
 use Rattle.serial.specs.Port.{Port}
 use Rattle.serial.specs.Layout.{portOf}
-use Rattle.serial.specs.Calls.{refusedBit, oneRaise, sentWord, SparesKept, Answers}
+use Rattle.common.specs.Answer.{refusedBit, oneRaise}
+use Rattle.serial.specs.Calls.{tells, sentWord, SparesKept, Answers}
 use Rattle.runs.specs.Run.{Op, read, write, input, room, Answer, replied, sent, took, full, hasRoom, step, run}
 
 -- ---- Operations
@@ -82,10 +83,10 @@ pub record WrittenAs (os : List Op) (ops inputs : List ℕ) : Type 0 where
 
 -- ---- Answers
 
--- The word that the call by itself answers: the reply, the byte sent, the bytes taken, "full", and the raises; the room.
+-- The word that the call by itself answers: the reply, the byte sent, what else happened, the bytes taken, "full", the raises; the room.
 abbrev pub word : Answer → ℕ
-word (replied v n) = v + oneRaise * n
-word (sent s n) = sentWord s + oneRaise * n
+word (replied v e n) = v + tells e n
+word (sent s e n) = sentWord s + tells e n
 word (took t n) = t + oneRaise * n
 word (full n) = refusedBit + oneRaise * n
 word (hasRoom r) = r

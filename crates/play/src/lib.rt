@@ -4,7 +4,6 @@ use serial::memory::Pos;
 use serial::memory::Regs;
 use serial::memory::Ring;
 ghost use mathlib.Core.Path.{_≡_};
-ghost use Prim.Native.Nat.{_≤_};
 ghost use Rattle.play.specs.Play.{inputBytes, opOf, decode, isRun, Answered, Plays};
 
 fn wide(byte: u8) -> usize

@@ -4,22 +4,29 @@
 // error, and a run that did not writes nothing there.
 use exchange::ENDLESS;
 use exchange::exchange;
+use lines::Turn;
 use words::Block;
+ghost use Rattle.lines.specs.Runs.{Left};
 
-fn run(held: &mut Block, out: &mut Block) {
+// Some run, of some input, comes to the turn that it answers. How far it gets is not promised: one
+// that stops at once would promise the same.
+fn run(held: &mut Block, out: &mut Block) -> Turn
+    ensures { λ r. ⌜ Left (now (out .exit)) r ⌝ }
+{
     let mut turn = lines::start();
     let mut turns = ENDLESS;
     while turns > 0 {
         let state = turn.state;
         let next = exchange(held, out, state);
         if !next.more {
-            return;
+            return turn;
         }
         let devices = turn.devices;
         let read = next.state;
         turn = lines::answer(held, devices, out, read);
         turns -= 1;
     }
+    turn
 }
 
 fn main() {

@@ -26,11 +26,11 @@ fn place(start: u32, n: u32) -> usize
     ((start % PLACES + n) % PLACES) as usize
 }
 
-// The start once the first byte has left.
+// The start once the first byte has left. It goes round at 2^32, a multiple of the places: any number is a start.
 pub fn next(start: u32) -> u32
-    ensures { λ r. ⌜ r ≡ (start + 1) % placesHere ⌝ }
+    ensures { λ r. ⌜ r % placesHere ≡ (start + 1) % placesHere ⌝ }
 {
-    (start % PLACES + 1) % PLACES
+    std::num::wrapping_add_u32(start, 1)
 }
 
 // The first byte.

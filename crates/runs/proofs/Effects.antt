@@ -1,24 +1,23 @@
 -- What an operation can do to a port is one of three things. Each theorem over runs goes by these cases and by induction.
-use mathlib.Core.Path.{_≡_, refl, subst}
-use mathlib.Core.Bool.{Bool, true, false, cond, _&&_}
-use mathlib.Core.List.{List, [], _∷_, _++_}
+use mathlib.Core.Path.{_≡_, refl}
+use mathlib.Core.Bool.{Bool, true, false, cond, not}
+use mathlib.Core.List.{List, [], _∷_, _++_, tail}
 use Prim.Native.Nat.{ℕ, zero, suc, _+_, _≤_, min}
 use native.Mathlib.Omega.{arith}
 use lib.ListN.{length, take, length-take}
-use lib.Dec.{eqb, ltb}
-use borrow.Author.Tests.{eqb-false, ltb-true, lt-ltb}
+use lib.Dec.{eqb}
+use borrow.Author.Tests.{eqb-false, ltb-true}
 use Rattle.common.specs.Lists.{some, firstOr0}
 use Rattle.line_status.specs.LineStatus.{lsrReady}
 use Rattle.serial.specs.Port.{Register, RBR-THR, IER, IIR-FCR, LCR, MCR, LSR, MSR, SCR, DLL, DLM, reserved, addressed, Settings, Port}
-use Rattle.serial.specs.Port.{isOpen, inLoop, withSettings, withReceiver, Out, replies, becomes, readRbr, readIir, readRegister, readOf}
-use Rattle.serial.specs.Port.{receives, hasRoom, transmits, emptied, writeIer, writeLine, writeLoop, writeRegister, writeOf, Input, roomOf}
+use Rattle.serial.specs.Port.{isOpen, inLoop, withSettings, withReceiver, Out, replies, becomes, readRbr, readIir, readRegister}
+use Rattle.serial.specs.Port.{receives, hasRoom, transmits, emptied, writeIer, writeLine, loopEvents, writeLoop, writeRegister, Input, roomOf}
 use Rattle.serial.specs.Port.{takesNone, takesSome, inputOf}
-use Rattle.runs.proofs.Registers.{isRbr, rbr-is-data}
 use Rattle.runs.specs.Run.{Op, read, write, input, room, didInput, step, run}
-use Rattle.runs.specs.Book.{accepted, readsData, delivered, taken, bookOf}
+use Rattle.runs.specs.Accepted.{accepted, delivered, taken, eventsOf}
 
--- ---- The three: the port after it, the bytes accepted, whether the data register is read, the bytes delivered. What is stored in IIR, and raised, is
--- another matter: `Raising`.
+-- ---- The three: the port after it, the bytes accepted, whether a read leaves none, the bytes delivered. What is stored in IIR, and raised,
+-- is another matter: `Raising`.
 
 -- other settings: no byte moves and the line status stays
 abbrev pub withIir : Port → Settings → ℕ → Port
@@ -28,13 +27,13 @@ pub data Effect (p : Port) : Port → List ℕ → Bool → List ℕ → Type 0 
   keeps : (s : Settings) (iir : ℕ) → Effect p (withIir p s iir) [] false []
   comes : (bytes : List ℕ) (iir : ℕ) → some bytes ≡ true → length (p .waiting) + length bytes ≤ p .size
       → Effect p (withReceiver p iir (lsrReady (p .lsr)) (p .waiting ++ bytes)) bytes false []
-  reads : Effect p (readRbr p .port) [] true (take 1 (p .waiting))
+  reads : Effect p (readRbr p .port) [] (not (some (tail (p .waiting)))) (take 1 (p .waiting))
 
 -- ---- Reads
 
-pub read-cases : (P : Out → Bool → Type 0) (p : Port) → P (readRbr p) true → P (readIir p) false → ((v : ℕ) → P (replies p v) false)
-    → (r : Register) → P (readRegister p r) (isRbr r)
-unfolding readRegister isRbr
+pub read-cases : (P : Out → Type 0) (p : Port) → P (readRbr p) → P (readIir p) → ((v : ℕ) → P (replies p v)) → (r : Register)
+    → P (readRegister p r)
+unfolding readRegister
 read-cases P p a b c RBR-THR = a
 read-cases P p a b c IER = c _
 read-cases P p a b c IIR-FCR = b
@@ -49,23 +48,24 @@ read-cases P p a b c reserved = c _
 
 -- ---- Writes
 
--- a byte written in the loop comes back, or is lost
+-- a byte written in the loop comes back, or is dropped
 abbrev pub returned : Port → ℕ → Out
 returned p v =
-    let o = receives (emptied p) (v ∷ []) in record { port = o .port; reply = 0; sent = []; raises = transmits p .raises + o .raises }
+    let o = receives (emptied p) (v ∷ []) in
+    record { port = o .port; reply = 0; sent = []; events = loopEvents true; raises = transmits p .raises + o .raises }
 
 abbrev pub dropped : Port → Out
-dropped p = record { port = emptied p; reply = 0; sent = []; raises = transmits p .raises + 0 }
+dropped p = record { port = emptied p; reply = 0; sent = []; events = loopEvents false; raises = transmits p .raises + 0 }
 
-pub write-cases : (P : Out → Bool → Type 0) (p : Port) (v : ℕ) → (hasRoom p ≡ true → P (returned p v) true) → P (dropped p) false
-    → P (writeLine p v) false
-    → P (writeIer p v) false → ((s : Settings) → s .ier ≡ p .settings .ier → P (becomes (withSettings p s)) false)
-    → (r : Register) → P (writeRegister p r v) (isRbr r && inLoop p && hasRoom p)
-unfolding writeRegister writeLoop isRbr
+pub write-cases : (P : Out → Type 0) (p : Port) (v : ℕ) → (hasRoom p ≡ true → P (returned p v)) → P (dropped p) → P (writeLine p v)
+    → P (writeIer p v) → ((s : Settings) → s .ier ≡ p .settings .ier → P (becomes (withSettings p s)))
+    → (r : Register) → P (writeRegister p r v)
+unfolding writeRegister writeLoop
 write-cases P p v a b c d e RBR-THR = go (inLoop p) (hasRoom p) refl
   where
     go : (l h : Bool) → hasRoom p ≡ h
-        → P (cond l (let o = cond h (receives (emptied p) (v ∷ [])) (becomes (emptied p)) in record { port = o .port; reply = 0; sent = []; raises = transmits p .raises + o .raises }) (writeLine p v)) (l && h)
+        → let o = cond h (receives (emptied p) (v ∷ [])) (becomes (emptied p)) in
+        P (cond l (record { port = o .port; reply = 0; sent = []; events = loopEvents h; raises = transmits p .raises + o .raises }) (writeLine p v))
     go true true k = a k
     go true false k = b
     go false h k = c
@@ -109,46 +109,49 @@ input-cases P p bytes a b = go (inLoop p) (eqb (length bytes) 0) (hasRoom p) ref
 
 -- ---- Every operation
 
--- what a read of the data register delivers, by the count and the reply, is the first byte that waits
-first-by-count : (q : List ℕ) → cond (ltb 0 (length q)) (firstOr0 q ∷ []) [] ≡ take 1 q
-first-by-count [] = refl
-first-by-count (x ∷ q) = rw (lt-ltb 0 (suc (length q)) (omega arith))
+-- what a read of RBR delivers is the first byte that waits
+first-said : (q : List ℕ) → cond (some q) (firstOr0 q ∷ []) [] ≡ take 1 q
+first-said [] = refl
+first-said (x ∷ q) = refl
 
 received : (p : Port) (bytes : List ℕ) → some bytes ≡ true → length (p .waiting) + length bytes ≤ p .size
     → Effect p (receives p bytes .port) bytes false []
 unfolding receives
 received p bytes = comes bytes _
 
-looped : (p : Port) (v : ℕ) → hasRoom p ≡ true → Effect p (returned p v .port) (v ∷ []) false []
+-- what a write of v does, as its answer tells
+abbrev Wrote : Port → ℕ → Out → Type 0
+Wrote p v o = Effect p (o .port) (cond (o .events .looped) (v ∷ []) []) (o .events .noneLeft) (cond (o .events .delivered) (0 ∷ []) [])
+
+looped : (p : Port) (v : ℕ) → hasRoom p ≡ true → Wrote p v (returned p v)
 unfolding receives
 looped p v h = comes (v ∷ []) _ refl (omega (arith, ltb-true (length (p .waiting)) (p .size) h))
 
-sent-on : (p : Port) (v : ℕ) → Effect p (writeLine p v .port) [] false []
+sent-on : (p : Port) (v : ℕ) → Wrote p v (writeLine p v)
 unfolding writeLine
 sent-on p v = keeps (p .settings) _
 
-enabled : (p : Port) (v : ℕ) → Effect p (writeIer p v .port) [] false []
+enabled : (p : Port) (v : ℕ) → Wrote p v (writeIer p v)
 unfolding writeIer
 enabled p v = keeps _ _
 
-not-taken : (p : Port) (bytes : List ℕ) (f : Bool) → Effect p p (take (taken (didInput (takesNone p f) .answer)) bytes) false []
+not-taken : (p : Port) (bytes : List ℕ) (f : Bool)
+    → let a = didInput (takesNone p f) .answer in Effect p p (take (taken a) bytes) (eventsOf a .noneLeft) (delivered a)
+unfolding delivered
 not-taken p bytes true = keeps (p .settings) (p .iir)
 not-taken p bytes false = keeps (p .settings) (p .iir)
 
 pub effect : (p : Port) (o : Op)
-    → Effect p (step p o .port) (accepted (bookOf p) o (step p o .answer)) (readsData (bookOf p) o)
-    (delivered (bookOf p) o (step p o .answer))
-unfolding step accepted delivered bookOf
+    → let a = step p o .answer in Effect p (step p o .port) (accepted o a) (eventsOf a .noneLeft) (delivered a)
+unfolding step accepted delivered
 effect p (read offset) =
-    let P : Out → Bool → Type 0 = λ o t. Effect p (o .port) [] t (cond (t && ltb 0 (length (p .waiting))) (o .reply ∷ []) []) in
-    subst (λ (t : Bool). P (readOf p offset) t) (rbr-is-data (isOpen p) offset)
-    (read-cases P p (rw first-by-count reads) (keeps (p .settings) _) (λ v. keeps (p .settings) (p .iir)) (addressed (isOpen p) offset))
+    let P : Out → Type 0 = λ o. Effect p (o .port) [] (o .events .noneLeft) (cond (o .events .delivered) (o .reply ∷ []) []) in
+    read-cases P p (rw first-said reads) (keeps (p .settings) _) (λ v. keeps (p .settings) (p .iir)) (addressed (isOpen p) offset)
 effect p (write offset v) =
-    let P : Out → Bool → Type 0 = λ o t. Effect p (o .port) (cond t (v ∷ []) []) false [] in
-    subst (λ (t : Bool). P (writeOf p offset v) (t && inLoop p && hasRoom p)) (rbr-is-data (isOpen p) offset)
-    (write-cases P p v (looped p v) (keeps (p .settings) _) (sent-on p v) (enabled p v) (λ s e. keeps s (p .iir)) (addressed (isOpen p) offset))
+    write-cases (Wrote p v) p v (looped p v) (keeps (p .settings) _) (sent-on p v) (enabled p v) (λ s e. keeps s (p .iir))
+    (addressed (isOpen p) offset)
 effect p (input bytes) =
-    input-cases (λ (i : Input). Effect p (i .port) (take (taken (didInput i .answer)) bytes) false []) p bytes
+    input-cases (λ (i : Input). let a = didInput i .answer in Effect p (i .port) (take (taken a) bytes) (eventsOf a .noneLeft) (delivered a)) p bytes
     (not-taken p bytes) (received p (take (takes p bytes) bytes))
 effect p room = keeps (p .settings) (p .iir)
 

@@ -9,3 +9,4 @@ pub mod Handling
 pub mod Reachable
 pub mod Exact
 pub mod Isolation
+pub mod Telling

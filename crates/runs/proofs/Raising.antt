@@ -1,6 +1,6 @@
 -- Every operation raises once for each kind that is active after it and was not before it; and what is stored in IIR stays settled.
 use mathlib.Core.Path.{_≡_, refl, sym, ap, _∙_}
-use mathlib.Core.Bool.{Bool, true, false, cond, not, _&&_, false≢true}
+use mathlib.Core.Bool.{Bool, true, false, cond, _&&_, false≢true}
 use mathlib.Core.List.{List, [], _∷_, _++_, tail}
 use Prim.Native.Nat.{ℕ, _+_}
 use native.Mathlib.Omega.{arith}
@@ -176,22 +176,22 @@ module _ (p : Port) where
 
 -- How often it raises.
 module _ (p : Port) where
-  abbrev Exactly : Out → Bool → Type 0
-  Exactly o t = o .raises ≡ raisedFrom p (o .port)
+  abbrev Exactly : Out → Type 0
+  Exactly o = o .raises ≡ raisedFrom p (o .port)
 
-  nothing : (s : Settings) → s .ier ≡ p .settings .ier → Exactly (becomes (withSettings p s)) false
+  nothing : (s : Settings) → s .ier ≡ p .settings .ier → Exactly (becomes (withSettings p s))
   nothing s e = sym (rw e (none-from p p (λ kind h. h)))
 
-  looped : (v : ℕ) → Exactly (returned p v) true
+  looped : (v : ℕ) → Exactly (returned p v)
   looped v =
       rw (came-raises (emptied p) (v ∷ []) refl)
       (grown-from p (emptied p) (receives (emptied p) (v ∷ []) .port) (emptied-active p) (came-active (emptied p) (v ∷ []) refl))
 
-  sent-raises : (v : ℕ) → Exactly (writeLine p v) false
+  sent-raises : (v : ℕ) → Exactly (writeLine p v)
   unfolding writeLine
   sent-raises v = refl
 
-  enabled-raises : (v : ℕ) → Exactly (writeIer p v) false
+  enabled-raises : (v : ℕ) → Exactly (writeIer p v)
   unfolding writeIer
   enabled-raises v = refl
 
@@ -212,18 +212,18 @@ module _ (p : Port) where
 
 -- IIR stays settled.
 module _ (p : Port) (k : Settled p) where
-  abbrev Fine : Out → Bool → Type 0
-  Fine o t = Settled (o .port)
+  abbrev Fine : Out → Type 0
+  Fine o = Settled (o .port)
 
-  sent-settled : (v : ℕ) → Fine (writeLine p v) false
+  sent-settled : (v : ℕ) → Fine (writeLine p v)
   unfolding writeLine
   sent-settled v = emptied-settled p k
 
-  enabled-settled : (v : ℕ) → Fine (writeIer p v) false
+  enabled-settled : (v : ℕ) → Fine (writeIer p v)
   unfolding writeIer
   enabled-settled v = settled-twice _ (bitOr (p .iir) 0x02) (some (p .waiting))
 
-  stored-settled : (s : Settings) → s .ier ≡ p .settings .ier → Fine (becomes (withSettings p s)) false
+  stored-settled : (s : Settings) → s .ier ≡ p .settings .ier → Fine (becomes (withSettings p s))
   stored-settled s e = rw e k
 
   pub stays-settled : (o : Op) → Settled (step p o .port)

@@ -1,26 +1,26 @@
 -- Every port that a run of bytes from a fresh one reaches is `Reachable`.
 use mathlib.Core.Path.{_≡_, refl}
-use mathlib.Core.Bool.{Bool, true, false, cond, _&&_}
+use mathlib.Core.Bool.{Bool, true, false, cond}
 use mathlib.Core.List.{List, [], _∷_, _++_, tail}
 use Prim.Native.Nat.{ℕ, _<_}
 use native.Mathlib.Omega.{arith}
-use lib.ListN.{length, length-append}
+use lib.ListN.{length-append}
 use lib.Bits.{and-le-r}
-use lib.Dec.{lit<, ltb}
+use lib.Dec.{lit<}
 use Rattle.common.specs.Bytes.{Bytes}
 use Rattle.common.specs.Lists.{some}
 use Rattle.common.proofs.Bytes.{bytes-take}
 use Rattle.interrupts.specs.Interrupts.{ierStored, settled}
 use Rattle.line_status.specs.LineStatus.{lsrReady, lsrAfterRead}
 use Rattle.serial.specs.Port.{Register, RBR-THR, IER, IIR-FCR, LCR, MCR, LSR, MSR, SCR, DLL, DLM, reserved, addressed, Settings, Port}
-use Rattle.serial.specs.Port.{isOpen, fresh}
+use Rattle.serial.specs.Port.{isOpen, fresh, Out, Input, readRegister, receives, inputOf}
 use Rattle.runs.specs.Run.{Op, read, write, input, room, Answer, step, run}
-use Rattle.runs.specs.Book.{Book, isData, accepted, taken, bookOf}
+use Rattle.runs.specs.Accepted.{accepted, taken, eventsOf}
 use Rattle.runs.specs.Reachable.{Written, Settled, Reachable}
 use Rattle.runs.specs.Reached.{OfBytes, AllOfBytes}
 use Rattle.runs.proofs.Registers.{both, put, write-puts}
-use Rattle.runs.proofs.Effects.{Effect, keeps, comes, reads, effect}
-use Rattle.runs.proofs.Conserved.{read-keeps-settings, input-keeps-settings, tail-short}
+use Rattle.runs.proofs.Effects.{Effect, keeps, comes, reads, read-cases, input-cases, effect}
+use Rattle.runs.proofs.Conserved.{tail-short}
 use Rattle.runs.proofs.Status.{some-more}
 use Rattle.runs.proofs.Raising.{stays-settled}
 
@@ -35,14 +35,21 @@ bytes-tail [] b = tt
 bytes-tail (x ∷ l) b = b .1
 
 -- what is accepted is among the operation's bytes
-accepted-bytes : (b : Book) (o : Op) (a : Answer) → OfBytes o → Bytes (accepted b o a)
+accepted-bytes : (o : Op) (a : Answer) → OfBytes o → Bytes (accepted o a)
 unfolding accepted
-accepted-bytes b (read offset) a h = tt
-accepted-bytes b (write offset v) a h = both Bytes (isData b offset && b .loop && ltb (b .waits) (b .size)) (h .1, tt) tt
-accepted-bytes b (input bytes) a h = bytes-take (taken a) bytes h
-accepted-bytes b room a h = tt
+accepted-bytes (read offset) a h = tt
+accepted-bytes (write offset v) a h = both Bytes (eventsOf a .looped) (h .1, tt) tt
+accepted-bytes (input bytes) a h = bytes-take (taken a) bytes h
+accepted-bytes room a h = tt
 
 -- ---- Settings
+
+read-keeps-settings : (p : Port) (r : Register) → readRegister p r .port .settings ≡ p .settings
+read-keeps-settings p r = read-cases (λ (o : Out). o .port .settings ≡ p .settings) p refl refl (λ v. refl) r
+
+input-keeps-settings : (p : Port) (bytes : List ℕ) → inputOf p bytes .port .settings ≡ p .settings
+unfolding receives
+input-keeps-settings p bytes = input-cases (λ (i : Input). i .port .settings ≡ p .settings) p bytes (λ f. refl) (λ s h. refl)
 
 put-written : (s : Settings) (r : Register) (v : ℕ) → Written s → v < 256 → Written (put s r v)
 unfolding put ierStored
@@ -106,7 +113,7 @@ kept {p = p} reads b w u k = record {
 
 pub step-reachable : (size : ℕ) (p : Port) (o : Op) → OfBytes o → Reachable size p → Reachable size (step p o .port)
 step-reachable size p o h k =
-    kept (effect p o) (accepted-bytes (bookOf p) o (step p o .answer) h) (written p o h (k .settings)) (stays-settled p (k .iir) o) k
+    kept (effect p o) (accepted-bytes o (step p o .answer) h) (written p o h (k .settings)) (stays-settled p (k .iir) o) k
 
 pub fresh-reachable : (size : ℕ) → Reachable size (fresh size)
 unfolding settled

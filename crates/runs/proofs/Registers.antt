@@ -99,20 +99,3 @@ write-puts p SCR v = refl
 write-puts p DLL v = refl
 write-puts p DLM v = refl
 write-puts p reserved v = refl
-
--- LCR at offset 3 and MCR at 4 are written there and nowhere else
-pub put-lcr : (s : Settings) (dlab : Bool) (v n : ℕ) → put s (addressed dlab n) v .lcr ≡ cond (eqb n 3) v (s .lcr)
-unfolding put
-put-lcr s dlab v =
-    let P : Register → Type 0 = λ r. put s r v .lcr ≡ s .lcr in
-    addressed-cases (λ n r. put s r v .lcr ≡ cond (eqb n 3) v (s .lcr)) dlab (both P dlab refl refl)
-    (both P dlab refl refl) refl refl refl refl refl refl
-    (λ n h. rw (ne-eqb n 3 (λ e. omega arith)))
-
-pub put-mcr : (s : Settings) (dlab : Bool) (v n : ℕ) → put s (addressed dlab n) v .mcr ≡ cond (eqb n 4) v (s .mcr)
-unfolding put
-put-mcr s dlab v =
-    let P : Register → Type 0 = λ r. put s r v .mcr ≡ s .mcr in
-    addressed-cases (λ n r. put s r v .mcr ≡ cond (eqb n 4) v (s .mcr)) dlab (both P dlab refl refl)
-    (both P dlab refl refl) refl refl refl refl refl refl
-    (λ n h. rw (ne-eqb n 4 (λ e. omega arith)))

@@ -2,7 +2,7 @@
 use Prim.Native.Nat.{ℕ, _+_}
 use mathlib.Core.Bool.{cond}
 use mathlib.Core.List.{List, [], _∷_}
-use Rattle.serial.specs.Port.{Port, Out, Input, readOf, writeOf, inputOf, roomOf}
+use Rattle.serial.specs.Port.{Port, Events, Out, Input, readOf, writeOf, inputOf, roomOf}
 
 -- The guest reads at an offset, or writes a value at an offset. The host has bytes from the line, or asks how many would be taken.
 pub data Op : Type 0 where
@@ -11,18 +11,19 @@ pub data Op : Type 0 where
   input : List ℕ → Op
   room : Op
 
--- What the call answers: the reply to a read; the byte that a write sends, if it sends one; how many bytes of an input are taken, or that
--- the receiver is full. The number behind it is how often the interrupt is raised. Asking for room answers the room.
+-- What the call answers: the reply to a read; the byte that a write sends, if it sends one; both with what else happened. How many bytes of
+-- an input are taken, or that the receiver is full. The number behind it is how often the interrupt is raised. Asking for room answers the
+-- room.
 pub data Answer : Type 0 where
-  replied : ℕ → ℕ → Answer
-  sent : List ℕ → ℕ → Answer
+  replied : ℕ → Events → ℕ → Answer
+  sent : List ℕ → Events → ℕ → Answer
   took : ℕ → ℕ → Answer
   full : ℕ → Answer
   hasRoom : ℕ → Answer
 
 abbrev pub raisesOf : Answer → ℕ
-raisesOf (replied v n) = n
-raisesOf (sent s n) = n
+raisesOf (replied v e n) = n
+raisesOf (sent s e n) = n
 raisesOf (took t n) = n
 raisesOf (full n) = n
 raisesOf (hasRoom r) = 0
@@ -34,10 +35,10 @@ pub record Did : Type 0 where
   pub answer : Answer
 
 abbrev pub didRead : Out → Did
-didRead o = record { port = o .port; answer = replied (o .reply) (o .raises) }
+didRead o = record { port = o .port; answer = replied (o .reply) (o .events) (o .raises) }
 
 abbrev pub didWrite : Out → Did
-didWrite o = record { port = o .port; answer = sent (o .sent) (o .raises) }
+didWrite o = record { port = o .port; answer = sent (o .sent) (o .events) (o .raises) }
 
 abbrev pub didInput : Input → Did
 didInput i = record { port = i .port; answer = cond (i .full) (full (i .raises)) (took (i .taken) (i .raises)) }

@@ -1,11 +1,14 @@
 -- What a host may rely on: a port that holds too much does not exist, and a word comes apart again.
-use mathlib.Core.Path.{_≡_, _∙_}
+use mathlib.Core.Path.{_≡_, refl, _∙_}
+use mathlib.Core.Logic.{_⊎_, inl, inr}
 use mathlib.Core.Bool.{Bool, true, false, cond}
 use mathlib.Core.List.{List, [], _∷_}
-use Prim.Native.Nat.{ℕ, _+_, _*_, _/_, _%_, _≤_, _<_}
+use Prim.Native.Nat.{ℕ, _≤_, _<_}
 use native.Mathlib.Omega.{arith}
 use lib.ListN.{length}
-use Rattle.serial.specs.Port.{Out, Input}
+use Rattle.common.proofs.Words.{Parts, parts}
+use Rattle.serial.specs.Port.{Port, Register, RBR-THR, IER, IIR-FCR, LCR, MCR, LSR, MSR, SCR, DLL, DLM, reserved, Out, Input}
+use Rattle.serial.specs.Port.{inLoop, writeLine, writeLoop, writeIer, writeRegister}
 use Rattle.serial.specs.Layout.{size, portOf, spareRegisters, freshSpareRegisters}
 use Rattle.serial.specs.Calls.{readWord, writeWord, inputWord, SparesKept, MakesFresh}
 use Rattle.serial.proofs.Answering.{waiting-length}
@@ -23,22 +26,45 @@ pub spares-stay-zero : (regs pos regs′ pos′ : List ℕ) → MakesFresh regs 
     → spareRegisters regs′ ≡ freshSpareRegisters
 spares-stay-zero regs pos regs′ pos′ fresh kept = kept .0 ∙ fresh .sparesZero
 
--- A word's parts: a byte; whether a byte is sent, or the input refused; how often the interrupt is raised.
-pub read-word : (o : Out) → o .reply < 256 → (readWord o % 256 ≡ o .reply) × (readWord o / 0x100_0000 ≡ o .raises)
-read-word o h = (omega arith, omega arith)
+-- A write sends its value or nothing.
+pub sent-value : (p : Port) (g : Register) (value : ℕ) → (writeRegister p g value .sent ≡ []) ⊎ (writeRegister p g value .sent ≡ value ∷ [])
+unfolding writeRegister writeLine writeLoop writeIer
+sent-value p RBR-THR value = go (inLoop p)
+  where
+    go : (loops : Bool) → let o = cond loops (writeLoop p value) (writeLine p value) in (o .sent ≡ []) ⊎ (o .sent ≡ value ∷ [])
+    go true = inl refl
+    go false = inr refl
+sent-value p IER value = inl refl
+sent-value p IIR-FCR value = inl refl
+sent-value p LCR value = inl refl
+sent-value p MCR value = inl refl
+sent-value p LSR value = inl refl
+sent-value p MSR value = inl refl
+sent-value p SCR value = inl refl
+sent-value p DLL value = inl refl
+sent-value p DLM value = inl refl
+sent-value p reserved value = inl refl
 
-pub silent-word : (o : Out) → o .sent ≡ [] → (writeWord o / 0x2_0000 % 2 ≡ 0) × (writeWord o / 0x100_0000 ≡ o .raises)
-silent-word o e = rw e (omega arith, omega arith)
+-- ---- Words come apart again, where their number has 16 bits
 
-pub sent-word : (o : Out) (byte : ℕ) → o .sent ≡ byte ∷ [] → byte < 256
-    → (writeWord o % 256 ≡ byte) × ((writeWord o / 0x2_0000 % 2 ≡ 1) × (writeWord o / 0x100_0000 ≡ o .raises))
-sent-word o byte e h = rw e (omega arith, (omega arith, omega arith))
+module _ (o : Out) where
+  -- A word that tells what the access does, behind a number.
+  abbrev Tells : ℕ → Bool → ℕ → Type 0
+  Tells number sends word =
+      let e = o .events in Parts number false sends false (e .dataRead) (e .delivered) (e .noneLeft) (e .looped) (e .dropped) (o .raises) word
+
+  pub read-word : o .reply < 0x1_0000 → Tells (o .reply) false (readWord o)
+  read-word h = let e = o .events in
+      parts (o .reply) false false false (e .dataRead) (e .delivered) (e .noneLeft) (e .looped) (e .dropped) (o .raises) _ (omega arith) h
+
+  pub silent-word : o .sent ≡ [] → Tells 0 false (writeWord o)
+  silent-word s = let e = o .events in
+      parts 0 false false false (e .dataRead) (e .delivered) (e .noneLeft) (e .looped) (e .dropped) (o .raises) _ (rw s (omega arith)) (omega arith)
+
+  pub sent-word : (byte : ℕ) → o .sent ≡ byte ∷ [] → byte < 0x1_0000 → Tells byte true (writeWord o)
+  sent-word byte s h = let e = o .events in
+      parts byte false true false (e .dataRead) (e .delivered) (e .noneLeft) (e .looped) (e .dropped) (o .raises) _ (rw s (omega arith)) h
 
 pub input-word : (i : Input) → i .taken < 0x1_0000
-    → (inputWord i % 0x1_0000 ≡ i .taken) × ((inputWord i / 0x1_0000 % 2 ≡ cond (i .full) 1 0) × (inputWord i / 0x100_0000 ≡ i .raises))
-input-word i h = go (i .full)
-  where
-    go : (full : Bool) → let word = i .taken + cond full 0x1_0000 0 + 0x100_0000 * i .raises in
-        (word % 0x1_0000 ≡ i .taken) × ((word / 0x1_0000 % 2 ≡ cond full 1 0) × (word / 0x100_0000 ≡ i .raises))
-    go true = (omega arith, (omega arith, omega arith))
-    go false = (omega arith, (omega arith, omega arith))
+    → Parts (i .taken) (i .full) false false false false false false false (i .raises) (inputWord i)
+input-word i h = parts (i .taken) (i .full) false false false false false false false (i .raises) _ (omega arith) h

@@ -3,11 +3,13 @@ use mathlib.Core.Path.{_≡_, refl, sym, ap, _∙_}
 use mathlib.Core.Bool.{not}
 use mathlib.Core.List.{List}
 use Prim.Native.Nat.{ℕ, _+_, _*_}
+use native.Mathlib.Omega.{arith}
 use lib.Dec.{eqb}
 use lib.ListN.{length, getD, set}
 use Rattle.interrupts.specs.Interrupts.{Ended, byteSent}
 use Rattle.serial.specs.Port.{transmits, emptied, withReceiver, writeLine}
 use Rattle.serial.specs.Layout.{portOf}
+use Rattle.common.specs.Answer.{oneRaise}
 use Rattle.serial.specs.Calls.{writeWord}
 use Rattle.serial.proofs.Leaves.{waits-is}
 use Rattle.serial.proofs.Registers.{marks}
@@ -29,6 +31,6 @@ module _ (regs pos ring : List ℕ) where
   raised-emptied = sym (ap (λ (e : Ended). e .raises) is-transmits)
 
   -- A byte is sent.
-  pub sent-line : (v : ℕ) → v + 0x2_0000 + 0x100_0000 * inMemory .raises ≡ writeWord (writeLine (portOf regs pos ring) v)
+  pub sent-line : (v : ℕ) → v + 0x2_0000 + oneRaise * inMemory .raises ≡ writeWord (writeLine (portOf regs pos ring) v)
   unfolding writeLine
-  sent-line v = sym (ap (λ (e : Ended). v + 0x2_0000 + 0x100_0000 * e .raises) is-transmits)
+  sent-line v = omega (arith, raised-emptied)

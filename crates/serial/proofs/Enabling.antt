@@ -11,6 +11,7 @@ use Rattle.interrupts.specs.Interrupts.{ierStored, enabling}
 use Rattle.interrupts.specs.Calls.{Tells}
 use Rattle.serial.specs.Port.{writeIer}
 use Rattle.serial.specs.Layout.{portOf}
+use Rattle.common.specs.Answer.{oneRaise}
 use Rattle.serial.specs.Calls.{Writes}
 use Rattle.serial.proofs.Leaves.{waits-is}
 use Rattle.serial.proofs.Registers.{one-stored, then-stored, enabled}
@@ -22,7 +23,7 @@ kept-iir regs ier e = e ∙ sym (getD-set-other regs 1 2 ier 0 (λ x. omega arit
 
 pub writes-ier : (regs pos ring : List ℕ) → length regs ≡ 16 → (v w : ℕ) → w ≡ ierStored v → {iir raises r : ℕ} {changes : Bool}
     → Tells (enabling (getD regs 1 0) w (getD regs 2 0) (not (eqb (getD pos 1 0) 0))) (getD regs 2 0) iir raises changes 2
-    → r ≡ 0x100_0000 * raises
+    → r ≡ oneRaise * raises
     → Writes (λ q. writeIer q v) regs pos ring (set (set regs 1 w) 2 iir) pos ring r
 unfolding portOf writeIer
 writes-ier regs pos ring n v w s t h =

@@ -8,6 +8,7 @@ use lib.Dec.{eqb}
 use lib.ListN.{length, getD, set, length-set}
 use Rattle.serial.specs.Port.{Port, receives, emptied, writeLoop}
 use Rattle.serial.specs.Layout.{size, places, startOf, countOf, portOf}
+use Rattle.common.specs.Answer.{loopedBit, droppedBit, oneRaise}
 use Rattle.serial.specs.Calls.{Writes}
 use Rattle.serial.specs.Inside.{Received, Emptied}
 use Rattle.ring.specs.Ring.{Put}
@@ -30,7 +31,7 @@ module _ (regs pos ring : List ℕ) (l : length regs ≡ 16) (n : ℕ) (c : n �
   emptied-stored = one-stored regs 2 _ (omega arith)
 
   -- The receiver is full: the byte is lost.
-  pub loop-drops : {regs′ : List ℕ} {raises r : ℕ} → Emptied regs waits regs′ raises → n ≡ size → r ≡ 0x100_0000 * raises
+  pub loop-drops : {regs′ : List ℕ} {raises r : ℕ} → Emptied regs waits regs′ raises → n ≡ size → r ≡ droppedBit + oneRaise * raises
       → Writes (λ q. writeLoop q v) regs pos ring regs′ pos ring r
   unfolding writeLoop
   loop-drops a f e =
@@ -60,7 +61,7 @@ module _ (regs pos ring : List ℕ) (l : length regs ≡ 16) (n : ℕ) (c : n �
     longer : countOf pos′ ≡ countOf pos → ⊥
     longer same = omega (arith, there regs₁ pos ring n c long₁ m (n + 1) fits put got₁ .1, ap countOf (got₁ .counted), same, c)
 
-    pub loop-receives : {r : ℕ} → r ≡ 0x100_0000 * (raises + more) → Writes (λ q. writeLoop q v) regs pos ring regs′ pos′ ring′ r
+    pub loop-receives : {r : ℕ} → r ≡ loopedBit + oneRaise * (raises + more) → Writes (λ q. writeLoop q v) regs pos ring regs′ pos′ ring′ r
     unfolding writeLoop
     loop-receives e =
         rw (not-full regs pos ring n c d)

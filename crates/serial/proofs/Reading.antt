@@ -1,7 +1,8 @@
 -- What each answer of a read is in the definition.
-use mathlib.Core.Path.{_≡_, refl, sym, _∙_}
+use mathlib.Core.Path.{_≡_, refl, sym, ap, _∙_}
 use mathlib.Core.List.{List, [], _∷_}
 use Prim.Native.Nat.{ℕ, zero, suc, _+_, _-_, _%_, _≤_}
+use native.Mathlib.Nat.{mod-mod}
 use native.Mathlib.Omega.{arith}
 use lib.ListN.{length, getD, set}
 use lib.Seq.{getD-set-other, set-getD, drop-set-lt}
@@ -11,12 +12,12 @@ use borrow.Author.Tests.{lt-ltb, le-ltb}
 use Rattle.common.specs.Lists.{some}
 use Rattle.interrupts.specs.Interrupts.{isHigh, identification, afterIdentification, afterDataRead}
 use Rattle.line_status.specs.LineStatus.{lsrAfterRead}
-use Rattle.serial.specs.Port.{Port, Register, isOpen, addressed, replies, readRegister, readRbr, readIir, readOf, line}
+use Rattle.serial.specs.Port.{Port, Register, isOpen, addressed, replies, readRegister, readEvents, readRbr, readIir, readOf, line}
 use Rattle.ring.specs.Ring.{queue}
 use Rattle.serial.specs.Layout.{places, startOf, countOf, portOf, sparePositions}
-use Rattle.serial.specs.Calls.{Reads}
+use Rattle.serial.specs.Calls.{eventBits, Reads}
 use Rattle.serial.specs.Inside.{WaitAfterRead, Taken}
-use Rattle.ring.proofs.Laws.{queue-length, queue-first}
+use Rattle.ring.proofs.Laws.{queue-length, queue-round, queue-first}
 use Rattle.serial.proofs.Leaves.{waits-is, some-left}
 use Rattle.serial.proofs.Registers.{Stored, one-stored, then-stored, marks, receiver, placed}
 use Rattle.serial.proofs.Answering.{as-it-was, registers-alone, other-count}
@@ -90,38 +91,39 @@ module _ (regs pos ring : List ℕ) where
       unfolding portOf
       with-lsr m e left l = e left l ∙ rw (getD-set-other regs 2 5 u 0 (λ x. omega arith))
 
-      pub reads-none : k ≡ 0 → WaitAfterRead (set regs 2 u) 0 regs′ → Reads readRbr regs pos ring regs′ pos 0
+      pub reads-none : k ≡ 0 → WaitAfterRead (set regs 2 u) 0 regs′ → Reads readRbr regs pos ring regs′ pos (eventBits (readEvents false false))
       unfolding portOf queue
       reads-none z e =
           let none : countOf pos ≡ 0 = sym c ∙ z in
           rw (with-lsr 0 e [] refl)
           (registers-alone n (both-stored regs u _) (receiver regs pos ring n u _ pos ring refl ∙ rw (none, w, z)) (rw none))
 
-      pub reads-first : {pos′ : List ℕ} (b : ℕ) → Taken pos ring k pos′ b → (k ≡ 0 → ⊥) → WaitAfterRead (set regs 2 u) (k - 1) regs′
-          → Reads readRbr regs pos ring regs′ pos′ b
+      pub reads-first : {pos′ : List ℕ} (b r : ℕ) → Taken pos ring k pos′ b → (k ≡ 0 → ⊥) → WaitAfterRead (set regs 2 u) (k - 1) regs′
+          → r ≡ b + eventBits (readEvents true (ltb 1 k)) → Reads readRbr regs pos ring regs′ pos′ r
       unfolding portOf
-      reads-first b t z e =
-          let s : ℕ = (startOf pos + 1) % places in
+      reads-first b r t z e said =
+          let s : ℕ = t .start in
           let left : List ℕ = queue places ring s (k - 1) in
           let there = placed pos (k - 1) (t .long) (omega arith) s in
           let lies : queue places ring (startOf pos) (countOf pos) ≡ b ∷ left = rw (sym c, t .byte)
-          (queue-first places ring (startOf pos) k z) in
+          (queue-first places ring (startOf pos) k z
+          ∙ ap (λ (l : List ℕ). getD ring (startOf pos % places) 0 ∷ l) (queue-round places ring ((startOf pos + 1) % places) s (k - 1) (rw (t .on) (mod-mod (startOf pos + 1) places)))) in
           let holds = receiver regs pos ring n u (lsrAfterRead (some left) (p .lsr)) (set (set pos 0 s) 1 (k - 1)) ring {waiting = left}
           (rw (there .0, there .1)) in
-          rw (t .moved, with-lsr (k - 1) e left (queue-length places ring s (k - 1))) (other-count (holds ∙ rw (lies, w, more-left k left z (queue-length places ring s (k - 1)))) refl (both-stored regs u _) (moved-spare pos s (k - 1)) (λ same. z (omega (arith, there .1))) (rw lies (omega arith)))
+          rw (t .moved, with-lsr (k - 1) e left (queue-length places ring s (k - 1))) (other-count (holds ∙ rw (lies, w, more-left k left z (queue-length places ring s (k - 1)))) refl (both-stored regs u _) (moved-spare pos s (k - 1)) (λ same. z (omega (arith, there .1))) (rw (said, lies, more-left k left z (queue-length places ring s (k - 1))) (omega arith)))
 
     -- RBR where several bytes wait: IIR and LSR stay
-    pub reads-several : (k b : ℕ) → k ≡ countOf pos → 2 ≤ k → {pos′ : List ℕ} → Taken pos ring k pos′ b
-        → Reads readRbr regs pos ring regs pos′ b
+    pub reads-several : (k b r : ℕ) → k ≡ countOf pos → 2 ≤ k → {pos′ : List ℕ} → Taken pos ring k pos′ b
+        → r ≡ b + eventBits (readEvents true true) → Reads readRbr regs pos ring regs pos′ r
     unfolding portOf
-    reads-several k b c h t =
+    reads-several k b r c h t said =
         let several : ltb 1 k ≡ true = lt-ltb 1 k h in
-        reads-first k c (p .iir) (rw several refl) b t (λ z. omega arith)
-        (rw (set-getD regs 2 0) (some-left regs (k - 1) (λ z. omega arith)))
+        reads-first k c (p .iir) (rw several refl) b r t (λ z. omega arith)
+        (rw (set-getD regs 2 0) (some-left regs (k - 1) (λ z. omega arith))) (rw several said)
 
     -- RBR where one byte waits
-    pub reads-last : 1 ≡ countOf pos → {u : ℕ} → u ≡ afterDataRead (p .settings .ier) (p .iir) false → (b : ℕ) {regs′ pos′ : List ℕ}
-        → Taken pos ring 1 pos′ b
-        → WaitAfterRead (set regs 2 u) 0 regs′ → Reads readRbr regs pos ring regs′ pos′ b
+    pub reads-last : 1 ≡ countOf pos → {u : ℕ} → u ≡ afterDataRead (p .settings .ier) (p .iir) false → (b r : ℕ) {regs′ pos′ : List ℕ}
+        → Taken pos ring 1 pos′ b → WaitAfterRead (set regs 2 u) 0 regs′ → r ≡ b + eventBits (readEvents true false)
+        → Reads readRbr regs pos ring regs′ pos′ r
     unfolding portOf
-    reads-last c {u} w b t e = reads-first 1 c u w b t (λ z. omega arith) e
+    reads-last c {u} w b r t e said = reads-first 1 c u w b r t (λ z. omega arith) e said

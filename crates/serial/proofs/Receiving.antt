@@ -10,6 +10,7 @@ use borrow.Author.Tests.{eq-eqb, ne-eqb, lt-ltb, le-ltb}
 use Rattle.interrupts.specs.Interrupts.{dataCame}
 use Rattle.serial.specs.Port.{Port, inLoop, hasRoom, roomOf, receives, inputOf}
 use Rattle.serial.specs.Layout.{size, places, startOf, countOf, portOf, unusedOf, sparePositions}
+use Rattle.common.specs.Answer.{oneRaise}
 use Rattle.serial.specs.Calls.{Answers, TakesInput, HasRoom}
 use Rattle.ring.specs.Ring.{Put}
 use Rattle.serial.specs.Inside.{Received}
@@ -91,7 +92,7 @@ module _ (regs pos ring : List ℕ) (n : ℕ) (c : n ≡ countOf pos) where
       pub line-receives : (l : length regs ≡ 16) (m : length pos ≡ 4) (k : ℕ) {regs′ pos′ ring′ : List ℕ} {raises r : ℕ} → (n ≡ size → ⊥)
           → k ≡ min (size - n) (length input)
           → Put places ring (startOf pos) n (take k input) ring′ (n + k) → Received regs pos (n + k) regs′ pos′ raises
-          → r ≡ k + 0x100_0000 * raises
+          → r ≡ k + oneRaise * raises
           → TakesInput (λ q. inputOf q input) regs pos ring regs′ pos′ ring′ r
       unfolding inputOf portOf
       line-receives l m k {raises = raises} {r = r} d f put got e =

@@ -5,7 +5,7 @@ use Prim.Native.Nat.{ℕ, _≤_, _<_}
 use native.Mathlib.Omega.{arith}
 use lib.ListN.{length, set, length-set}
 use lib.Seq.{drop-set-lt}
-use Rattle.serial.specs.Port.{Port, Settings, fresh, withSettings, withReceiver, putIer}
+use Rattle.serial.specs.Port.{Port, Settings, withSettings, withReceiver, putIer}
 use Rattle.ring.specs.Ring.{queue}
 use Rattle.serial.specs.Layout.{size, places, startOf, countOf, portOf, spareRegisters}
 use Rattle.serial.specs.Calls.{MakesFresh}

@@ -10,6 +10,7 @@ use Rattle.serial.specs.Port.{Port, Settings, Register, RBR-THR, IER, LC
 use Rattle.serial.specs.Port.{putLcr, putMcr, putScr, putDll, putDlm, writeIer, writeLine, writeLoop, writeThr, writeRegister}
 use Rattle.serial.specs.Port.{writeOf}
 use Rattle.serial.specs.Layout.{portOf}
+use Rattle.common.specs.Answer.{oneRaise}
 use Rattle.serial.specs.Calls.{Writes}
 use Rattle.serial.specs.Inside.{Emptied}
 use Rattle.serial.proofs.Registers.{one-stored, setting}
@@ -24,7 +25,7 @@ module _ (regs pos ring : List ℕ) where
   -- A byte goes out.
   pub sends : length regs ≡ 16 → (v : ℕ) {regs′ : List ℕ} {raises r : ℕ} → inLoop p ≡ false
       → Emptied regs (not (eqb (getD pos 1 0) 0)) regs′ raises
-      → r ≡ v + 0x2_0000 + 0x100_0000 * raises → Writes (λ q. writeThr q v) regs pos ring regs′ pos ring r
+      → r ≡ v + 0x2_0000 + oneRaise * raises → Writes (λ q. writeThr q v) regs pos ring regs′ pos ring r
   unfolding writeLine
   sends n v o a e =
       rw (o, a .stored) (registers-alone n (one-stored regs 2 _ (omega arith)) (holds-emptied regs pos ring n) (rw (e, a .raised) (sent-line regs pos ring v)))

@@ -3,28 +3,25 @@ use Prim.Native.Nat.{ℕ, _+_, _*_}
 use mathlib.Core.Path.{_≡_}
 use mathlib.Core.List.{List, [], _∷_}
 use mathlib.Core.Bool.{Bool, cond}
-use Rattle.serial.specs.Port.{Port, Out, Input, fresh, roomOf, line}
+use Rattle.common.specs.Answer.{refusedBit, sentBit, dataReadBit, deliveredBit, noneLeftBit, loopedBit, droppedBit, oneRaise}
+use Rattle.serial.specs.Port.{Port, Events, Out, Input, fresh, roomOf, line}
 use Rattle.serial.specs.Layout.{size, portOf, unusedOf, spareRegisters, sparePositions, freshSpareRegisters, freshSparePositions}
 
--- ---- The words: one layout for all calls
+-- ---- The words: `common`'s Answer lays them out
 
--- The low 16 bits are a number: the reply, the byte sent, how many bytes are taken. Then one bit each: refused, a byte is sent, reachable
--- (a restore's); the bits behind them up to 0x80_0000 are spare. From 0x100_0000 on stands how often the interrupt is raised.
-abbrev pub refusedBit : ℕ
-refusedBit = 0x1_0000
+-- What happened, as bits; and behind them the raises.
+abbrev pub eventBits : Events → ℕ
+eventBits e =
+    cond (e .dataRead) dataReadBit 0 +
+    (cond (e .delivered) deliveredBit 0 +
+    (cond (e .noneLeft) noneLeftBit 0 + (cond (e .looped) loopedBit 0 + cond (e .dropped) droppedBit 0)))
 
-abbrev pub sentBit : ℕ
-sentBit = 0x2_0000
-
-abbrev pub reachableBit : ℕ
-reachableBit = 0x4_0000
-
-abbrev pub oneRaise : ℕ
-oneRaise = 0x100_0000
+abbrev pub tells : Events → ℕ → ℕ
+tells events raises = eventBits events + oneRaise * raises
 
 -- After a read: the reply.
 abbrev pub readWord : Out → ℕ
-readWord o = o .reply + oneRaise * o .raises
+readWord o = o .reply + tells (o .events) (o .raises)
 
 -- After a write: the byte sent, where one is sent.
 abbrev pub sentWord : List ℕ → ℕ
@@ -32,7 +29,7 @@ sentWord [] = 0
 sentWord (byte ∷ rest) = byte + sentBit
 
 abbrev pub writeWord : Out → ℕ
-writeWord o = sentWord (o .sent) + oneRaise * o .raises
+writeWord o = sentWord (o .sent) + tells (o .events) (o .raises)
 
 -- After an input: how many bytes are taken; refused is "full".
 abbrev pub inputWord : Input → ℕ
@@ -44,8 +41,8 @@ abbrev pub SparesKept : List ℕ → List ℕ → List ℕ → List ℕ → Type
 SparesKept regs pos regs′ pos′ = (spareRegisters regs′ ≡ spareRegisters regs) × (sparePositions pos′ ≡ sparePositions pos)
 
 -- The call answers the word, and the memory holds the port. The bytes of the ring that do not wait are as they were, and so are the spare
--- registers and positions. Where the port stays what it was (an input refused, a byte dropped, a register read) not a byte of the memory
--- changes.
+-- registers and positions. Where the port stays what it was (an input refused, a read without effect, a write to nowhere) not a byte of the
+-- memory changes.
 pub record Answers (regs pos ring regs′ pos′ ring′ : List ℕ) (r : ℕ) (port : Port) (word : ℕ) : Type 0 where
   pub answer : r ≡ word
   pub holds : portOf regs′ pos′ ring′ ≡ port

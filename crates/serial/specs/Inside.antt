@@ -30,8 +30,10 @@ pub record Emptied (regs : List ℕ) (waits : Bool) (regs′ : List ℕ) (r : �
 abbrev pub WaitAfterRead : List ℕ → ℕ → List ℕ → Type 0
 WaitAfterRead regs n regs′ = (left : List ℕ) → length left ≡ n → regs′ ≡ set regs 5 (lsrAfterRead (some left) (getD regs 5 0))
 
--- Of n bytes that wait the first, b, has left: the start lies at 0 of the positions, the number at 1.
+-- Of n bytes that wait the first, b, has left: the start lies at 0 of the positions and goes on by one place, the number lies at 1.
 pub record Taken (pos ring : List ℕ) (n : ℕ) (pos′ : List ℕ) (b : ℕ) : Type 0 where
   pub long : length pos ≡ 4
-  pub moved : pos′ ≡ set (set pos 0 ((startOf pos + 1) % places)) 1 (n - 1)
+  pub start : ℕ
+  pub on : start % places ≡ (startOf pos + 1) % places
+  pub moved : pos′ ≡ set (set pos 0 start) 1 (n - 1)
   pub byte : b ≡ getD ring (startOf pos % places) 0

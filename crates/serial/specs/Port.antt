@@ -1,7 +1,7 @@
 -- The 16550 serial port: its registers, the bytes that wait in its receiver, and what each access does.
 use Prim.Native.Nat.{ℕ, _+_, _-_, min}
 use mathlib.Core.List.{List, [], _∷_, _++_, tail}
-use mathlib.Core.Bool.{Bool, true, false, cond}
+use mathlib.Core.Bool.{Bool, true, false, cond, not}
 use lib.ListN.{length, take}
 use lib.Dec.{ltb, eqb}
 use Rattle.common.specs.Bits.{on}
@@ -83,34 +83,58 @@ withSettings p s = record { settings = s; iir = p .iir; lsr = p .lsr; msr = p .m
 abbrev pub withReceiver : Port → ℕ → ℕ → List ℕ → Port
 withReceiver p iir lsr waiting = record { settings = p .settings; iir = iir; lsr = lsr; msr = p .msr; waiting = waiting; size = p .size }
 
--- ---- What an access does: the port after it, the reply to a read, the byte sent if any, how often the interrupt is raised
+-- ---- What an access does: the port after it, the reply to a read, the byte sent if any, what its host is told, how often the interrupt is
+-- raised
+
+-- RBR was read; a byte left with the reply; RBR was read and no byte waits. In the loop: the byte written waits; there was no room for it.
+pub record Events : Type 0 where
+  pub dataRead : Bool
+  pub delivered : Bool
+  pub noneLeft : Bool
+  pub looped : Bool
+  pub dropped : Bool
+
+abbrev pub noEvents : Events
+noEvents = record { dataRead = false; delivered = false; noneLeft = false; looped = false; dropped = false }
 
 pub record Out : Type 0 where
   pub port : Port
   pub reply : ℕ
   pub sent : List ℕ
+  pub events : Events
   pub raises : ℕ
 
 abbrev pub replies : Port → ℕ → Out
-replies p value = record { port = p; reply = value; sent = []; raises = 0 }
+replies p value = record { port = p; reply = value; sent = []; events = noEvents; raises = 0 }
 
 abbrev pub becomes : Port → Out
 becomes p = replies p 0
 
 -- ---- RBR and THR
 
+-- RBR is read: whether bytes waited before it, and wait after it.
+abbrev pub readEvents : Bool → Bool → Events
+readEvents waited waits = record { dataRead = true; delivered = waited; noneLeft = not waits; looped = false; dropped = false }
+
 -- RBR: the first byte that waits leaves; 0 where none waits: DIFFERENCES, "serial-empty-receiver".
 abbrev pub readRbr : Port → Out
 readRbr p =
     let left = tail (p .waiting) in
     let iir = afterDataRead (p .settings .ier) (p .iir) (some left) in
-    replies (withReceiver p iir (lsrAfterRead (some left) (p .lsr)) left) (firstOr0 (p .waiting))
+    record {
+      port = withReceiver p iir (lsrAfterRead (some left) (p .lsr)) left;
+      reply = firstOr0 (p .waiting);
+      sent = [];
+      events = readEvents (some (p .waiting)) (some left);
+      raises = 0;
+    }
 
 -- Bytes come to the receiver: they wait behind the others, data is ready, received data is pending.
 unfoldable pub receives : Port → List ℕ → Out
 receives p bytes =
     let a = dataCame (p .settings .ier) (p .iir) (some (p .waiting)) in
-    record { port = withReceiver p (a .iir) (lsrReady (p .lsr)) (p .waiting ++ bytes); reply = 0; sent = []; raises = a .raises }
+    let after = withReceiver p (a .iir) (lsrReady (p .lsr)) (p .waiting ++ bytes) in
+    record { port = after; reply = 0; sent = []; events = noEvents; raises = a .raises }
 
 abbrev pub hasRoom : Port → Bool
 hasRoom p = ltb (length (p .waiting)) (p .size)
@@ -124,13 +148,18 @@ emptied p = withReceiver p (transmits p .iir) (p .lsr) (p .waiting)
 
 -- On the line the byte is sent.
 unfoldable pub writeLine : Port → ℕ → Out
-writeLine p value = record { port = emptied p; reply = 0; sent = value ∷ []; raises = transmits p .raises }
+writeLine p value = record { port = emptied p; reply = 0; sent = value ∷ []; events = noEvents; raises = transmits p .raises }
 
--- In the loop it comes to the receiver. Where that is full the byte is lost with no word: DIFFERENCES, "serial-loop-overrun".
+-- A byte is written in the loop: whether there is room for it.
+abbrev pub loopEvents : Bool → Events
+loopEvents fits = record { dataRead = false; delivered = false; noneLeft = false; looped = fits; dropped = not fits }
+
+-- In the loop it comes to the receiver. Where that is full the byte is dropped, and the guest is told nothing: DIFFERENCES,
+-- "serial-loop-overrun".
 unfoldable pub writeLoop : Port → ℕ → Out
 writeLoop p value =
     let o = cond (hasRoom p) (receives (emptied p) (value ∷ [])) (becomes (emptied p)) in
-    record { port = o .port; reply = 0; sent = []; raises = transmits p .raises + o .raises }
+    record { port = o .port; reply = 0; sent = []; events = loopEvents (hasRoom p); raises = transmits p .raises + o .raises }
 
 abbrev pub writeThr : Port → ℕ → Out
 writeThr p value = cond (inLoop p) (writeLoop p value) (writeLine p value)
@@ -166,7 +195,8 @@ unfoldable pub writeIer : Port → ℕ → Out
 writeIer p value =
     let s = putIer (p .settings) (ierStored value) in
     let a = enabling (p .settings .ier) (s .ier) (p .iir) (some (p .waiting)) in
-    record { port = withReceiver (withSettings p s) (a .iir) (p .lsr) (p .waiting); reply = 0; sent = []; raises = a .raises }
+    let after = withReceiver (withSettings p s) (a .iir) (p .lsr) (p .waiting) in
+    record { port = after; reply = 0; sent = []; events = noEvents; raises = a .raises }
 
 -- ---- IIR
 

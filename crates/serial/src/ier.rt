@@ -1,5 +1,4 @@
 // IER.
-use crate::answer::ONE_RAISE;
 use crate::iir;
 use crate::memory;
 use crate::memory::COUNT;
@@ -7,6 +6,7 @@ use crate::memory::IER;
 use crate::memory::IIR;
 use crate::memory::Pos;
 use crate::memory::Regs;
+use common::answer::ONE_RAISE;
 ghost use mathlib.Core.List.{List};
 ghost use Prim.Native.Nat.{ℕ};
 ghost use Rattle.serial.specs.Port.{writeIer};

@@ -1,6 +1,5 @@
 // A 16550 serial port in memory that its host lends, in place: nothing is copied, and any bytes are
 // some port. The host hands each access of the guest to these functions and acts on the answer.
-pub mod answer;
 mod ier;
 mod iir;
 pub mod memory;
@@ -8,8 +7,8 @@ mod receiver;
 mod transmitter;
 pub mod waiting;
 
-use answer::ONE_RAISE;
-use answer::REFUSED;
+use common::answer::ONE_RAISE;
+use common::answer::REFUSED;
 use memory::COUNT;
 use memory::DLL;
 use memory::DLM;

@@ -9,10 +9,16 @@ use crate::memory::Pos;
 use crate::memory::Regs;
 use crate::memory::Ring;
 use crate::waiting;
+use common::answer::DATA_READ;
+use common::answer::DELIVERED;
+use common::answer::NONE_LEFT;
+ghost use mathlib.Core.Path.{_≡_};
+ghost use mathlib.Core.Bool.{true};
+ghost use Prim.Native.Nat.{_+_};
 ghost use lib.ListN.{getD};
 ghost use Rattle.interrupts.specs.Calls.{Quiet};
-ghost use Rattle.serial.specs.Port.{readRbr};
-ghost use Rattle.serial.specs.Calls.{Reads};
+ghost use Rattle.serial.specs.Port.{readEvents, readRbr};
+ghost use Rattle.serial.specs.Calls.{eventBits, Reads};
 ghost use Rattle.serial.specs.Inside.{Received, WaitAfterRead};
 
 // LSR once a byte has been read and `left` wait.
@@ -23,6 +29,16 @@ fn lsr_after_read(regs: &mut Regs, left: u32)
         memory::regs_len(regs);
         regs[LSR] = line_status::after_read(regs[LSR], false);
     }
+}
+
+// The word of a read with which `byte` has left, and whether another waits.
+fn delivered(byte: u8, waits: bool) -> u32
+    ensures { λ r. ⌜ r ≡ byte + eventBits (readEvents true waits) ⌝ }
+{
+    if waits {
+        return memory::wide(byte) + (DATA_READ + DELIVERED);
+    }
+    memory::wide(byte) + (DATA_READ + DELIVERED + NONE_LEFT)
 }
 
 // RBR: the first byte leaves. What is usual comes first, since a guest fetches its input byte by byte:
@@ -36,10 +52,10 @@ pub fn read_rbr(regs: &mut Regs, pos: &mut Pos, ring: &Ring) -> u32
     if n == 1 {
         regs[IIR] = interrupts::after_data_read(regs[IER], regs[IIR], false);
         lsr_after_read(regs, 0);
-        return memory::wide(waiting::take(pos, ring, 1));
+        return delivered(waiting::take(pos, ring, 1), false);
     }
     if waiting::several(n) {
-        return memory::wide(waiting::take(pos, ring, n));
+        return delivered(waiting::take(pos, ring, n), true);
     }
     read_any_rbr(regs, pos, ring)
 }
@@ -54,10 +70,10 @@ fn read_any_rbr(regs: &mut Regs, pos: &mut Pos, ring: &Ring) -> u32
     regs[IIR] = interrupts::after_data_read(regs[IER], regs[IIR], 1 < n);
     if n == 0 {
         lsr_after_read(regs, 0);
-        return 0;
+        return DATA_READ + NONE_LEFT;
     }
     lsr_after_read(regs, n - 1);
-    memory::wide(waiting::take(pos, ring, n))
+    delivered(waiting::take(pos, ring, n), 1 < n)
 }
 
 // The bytes put into the ring wait from now on, `n` in all: data is ready, received data is pending.

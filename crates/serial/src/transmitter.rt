@@ -1,6 +1,4 @@
 // The transmitter: a byte written leaves at once.
-use crate::answer::ONE_RAISE;
-use crate::answer::SENT;
 use crate::iir;
 use crate::memory;
 use crate::memory::COUNT;
@@ -13,6 +11,10 @@ use crate::memory::Ring;
 use crate::memory::START;
 use crate::receiver;
 use crate::waiting;
+use common::answer::DROPPED;
+use common::answer::LOOPED;
+use common::answer::ONE_RAISE;
+use common::answer::SENT;
 ghost use lib.ListN.{getD};
 ghost use Rattle.interrupts.specs.Calls.{Quiet};
 ghost use Rattle.serial.specs.Port.{writeLoop, writeThr};
@@ -32,7 +34,7 @@ pub fn write_thr(regs: &mut Regs, pos: &mut Pos, ring: &mut Ring, value: u8) -> 
     memory::wide(value) + SENT + ONE_RAISE * raises
 }
 
-// THR in the loop: the byte comes to the receiver, or is lost where that is full.
+// THR in the loop: the byte comes to the receiver, or is dropped where that is full.
 fn write_loop(regs: &mut Regs, pos: &mut Pos, ring: &mut Ring, value: u8) -> u32
     ensures { λ r. ⌜ Writes (λ p. writeLoop p value) (now (regs .entry)) (now (pos .entry)) (now (ring .entry))
         (now (regs .exit)) (now (pos .exit)) (now (ring .exit)) r ⌝ }
@@ -45,10 +47,10 @@ fn write_loop(regs: &mut Regs, pos: &mut Pos, ring: &mut Ring, value: u8) -> u32
     let n = waiting::count(pos);
     let raises = emptied(regs, pos[COUNT] != 0);
     if n == memory::SIZE {
-        return ONE_RAISE * raises;
+        return DROPPED + ONE_RAISE * raises;
     }
     ring::push(ring, pos[START], n, value);
-    ONE_RAISE * (raises + receiver::receive(regs, pos, n + 1))
+    LOOPED + ONE_RAISE * (raises + receiver::receive(regs, pos, n + 1))
 }
 
 // The same where no kind of interrupt is enabled, as while a driver tests the port or polls.
@@ -61,11 +63,11 @@ fn loop_quietly(regs: &mut Regs, pos: &mut Pos, ring: &mut Ring, value: u8) -> u
     memory::pos_len(pos);
     let n = waiting::count(pos);
     if n == memory::SIZE {
-        return 0;
+        return DROPPED;
     }
     ring::push(ring, pos[START], n, value);
     receiver::receive_quietly(regs, pos, n + 1);
-    0
+    LOOPED
 }
 
 // The transmitter is empty. The answer: how often the interrupt is to be raised. `waits` says whether a

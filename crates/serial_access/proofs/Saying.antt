@@ -5,50 +5,32 @@ use mathlib.Core.Logic.{_⊎_, inl, inr}
 use mathlib.Core.Bool.{Bool, true, false, cond}
 use mathlib.Core.List.{List, [], _∷_, _++_}
 use native.Mathlib.Omega.{arith}
-use borrow.Author.Tests.{lt-ltb, le-ltb}
+use borrow.Author.Tests.{lt-ltb, le-ltb, eq-eqb, ne-eqb}
 use lib.Dec.{eqb}
 use lib.ListN.{length, getD}
 use Rattle.serial.specs.Port.{Port, Out, Input, readOf, writeOf, inputOf, isOpen, inLoop, hasRoom, takesNone, takesSome}
-use Rattle.serial.specs.Port.{Register, RBR-THR, IER, IIR-FCR, LCR, MCR, LSR, MSR, SCR, DLL, DLM, reserved, addressed, writeRegister}
-use Rattle.serial.specs.Port.{writeLine, writeLoop, writeIer}
+use Rattle.serial.specs.Port.{addressed}
 use Rattle.serial.specs.Layout.{size, portOf}
+use Rattle.common.specs.Answer.{sentBit, oneRaise}
 use Rattle.serial.specs.Calls.{Reads, Writes, TakesInput, writeWord, inputWord}
 use Rattle.words.specs.Hex.{digitsOf}
 use Rattle.words.specs.Put.{Puts}
 use Rattle.words.specs.Text.{text}
+use Rattle.serial.proofs.Bounds.{sent-value, silent-word, sent-word}
 use Rattle.words.proofs.Putting.{both, instead}
 use Rattle.serial_words.specs.Inside.{sentPart, takenPart}
 use Rattle.serial_words.specs.Said.{raisesSay, sentSays, takenSays, portSays}
 use Rattle.serial_access.specs.Accesses.{DidRead, DidWrite, DidInput, lineSays}
 
--- A write sends its value or nothing.
-value-or-none : (p : Port) (g : Register) (value : ℕ) → (writeRegister p g value .sent ≡ []) ⊎ (writeRegister p g value .sent ≡ value ∷ [])
-unfolding writeRegister writeLine writeLoop writeIer
-value-or-none p RBR-THR value = go (inLoop p)
-  where
-    go : (loops : Bool) → let o = cond loops (writeLoop p value) (writeLine p value) in (o .sent ≡ []) ⊎ (o .sent ≡ value ∷ [])
-    go true = inl refl
-    go false = inr refl
-value-or-none p IER value = inl refl
-value-or-none p IIR-FCR value = inl refl
-value-or-none p LCR value = inl refl
-value-or-none p MCR value = inl refl
-value-or-none p LSR value = inl refl
-value-or-none p MSR value = inl refl
-value-or-none p SCR value = inl refl
-value-or-none p DLL value = inl refl
-value-or-none p DLM value = inl refl
-value-or-none p reserved value = inl refl
-
 write-parts : (o : Out) (value : ℕ) → value < 256 → (o .sent ≡ []) ⊎ (o .sent ≡ value ∷ [])
-    → (sentPart (writeWord o % 0x100_0000) ≡ sentSays (o .sent)) × (writeWord o / 0x100_0000 ≡ o .raises)
+    → (sentPart (writeWord o) ≡ sentSays (o .sent)) × (writeWord o / oneRaise ≡ o .raises)
 write-parts o value h (inl e) =
-    let m : (0 + 0x100_0000 * o .raises) % 0x100_0000 ≡ 0 = omega arith in
-    rw e (rw m refl, omega arith)
+    let w = silent-word o e in
+    (rw (eq-eqb (writeWord o / sentBit % 2) 0 (w .sent), e) refl, w .raises)
 write-parts o value h (inr e) =
-    let m : (value + 0x2_0000 + 0x100_0000 * o .raises) % 0x100_0000 ≡ value + 0x2_0000 = omega arith in
-    let v : (value + 0x2_0000) % 256 ≡ value = omega arith in
-    rw e (rw (m, le-ltb (value + 0x2_0000) 0x2_0000 (omega arith), v) refl, omega arith)
+    let w = sent-word o value e (omega arith) in
+    let low : writeWord o % 256 ≡ value = omega (arith, w .number) in
+    (rw (ne-eqb (writeWord o / sentBit % 2) 0 (λ z. omega (arith, w .sent)), low, e) refl, w .raises)
 
 -- No more bytes are taken than there is room for.
 few-taken : (p : Port) (bytes : List ℕ) → p .size ≡ size → inputOf p bytes .taken < 0x1_0000
@@ -64,16 +46,16 @@ few-taken p bytes e = go (inLoop p) (eqb (length bytes) 0) (hasRoom p)
     go false false false = omega arith
 
 input-parts : (i : Input) → i .taken < 0x1_0000
-    → (takenPart (inputWord i % 0x100_0000) ≡ takenSays (i .full) (i .taken)) × (inputWord i / 0x100_0000 ≡ i .raises)
+    → (takenPart (inputWord i % oneRaise) ≡ takenSays (i .full) (i .taken)) × (inputWord i / oneRaise ≡ i .raises)
 input-parts i h = go (i .full)
   where
-    go : (f : Bool) → let word = i .taken + cond f 0x1_0000 0 + 0x100_0000 * i .raises in
-        (takenPart (word % 0x100_0000) ≡ takenSays f (i .taken)) × (word / 0x100_0000 ≡ i .raises)
+    go : (f : Bool) → let word = i .taken + cond f 0x1_0000 0 + oneRaise * i .raises in
+        (takenPart (word % oneRaise) ≡ takenSays f (i .taken)) × (word / oneRaise ≡ i .raises)
     go true =
-        let m : (i .taken + 0x1_0000 + 0x100_0000 * i .raises) % 0x100_0000 ≡ i .taken + 0x1_0000 = omega arith in
+        let m : (i .taken + 0x1_0000 + oneRaise * i .raises) % oneRaise ≡ i .taken + 0x1_0000 = omega arith in
         (rw (m, le-ltb (i .taken + 0x1_0000) 0x1_0000 (omega arith)) refl, omega arith)
     go false =
-        let m : (i .taken + 0 + 0x100_0000 * i .raises) % 0x100_0000 ≡ i .taken = omega arith in
+        let m : (i .taken + 0 + oneRaise * i .raises) % oneRaise ≡ i .taken = omega arith in
         (rw (m, lt-ltb (i .taken) 0x1_0000 h) refl, omega arith)
 
 -- ---- One access
@@ -85,33 +67,35 @@ size-of regs pos ring = refl
 module _ {out o₁ o₂ out′ : List ℕ} {at a b r : ℕ} {regs pos ring regs′ pos′ : List ℕ} {word : ℕ} where
   pub reads : (offset : ℕ) → Reads (λ p. readOf p offset) regs pos ring regs′ pos′ word → Puts out at (text "r ") o₁ a
       → Puts o₁ a (digitsOf (word % 256)) o₂ b
-      → Puts o₂ b (raisesSay (word / 0x100_0000)) out′ r → DidRead offset regs pos ring regs′ pos′ ring out at out′ r
-  reads offset c p q s = record { says = rw (← c .answer) (both (both p q) s); holds = c .holds }
+      → Puts o₂ b (raisesSay (word / oneRaise)) out′ r → DidRead offset regs pos ring regs′ pos′ ring out at out′ r
+  reads offset c p q s = record { says = rw (← c .answer) (both (both p q) s); holds = c .holds; spare = c .sparesKept .0 }
 
   pub writes : (offset value : ℕ) {ring′ : List ℕ} → value < 256 → Writes (λ p. writeOf p offset value) regs pos ring regs′ pos′ ring′ word
-      → Puts out at (text "w ") o₁ a → Puts o₁ a (sentPart (word % 0x100_0000)) o₂ b → Puts o₂ b (raisesSay (word / 0x100_0000)) out′ r
+      → Puts out at (text "w ") o₁ a → Puts o₁ a (sentPart word) o₂ b → Puts o₂ b (raisesSay (word / oneRaise)) out′ r
       → DidWrite offset value regs pos ring regs′ pos′ ring′ out at out′ r
   writes offset value h c p q s =
       let o = writeOf (portOf regs pos ring) offset value in
-      let parts = write-parts o value h (value-or-none (portOf regs pos ring) (addressed (isOpen (portOf regs pos ring)) offset) value) in
+      let parts = write-parts o value h (sent-value (portOf regs pos ring) (addressed (isOpen (portOf regs pos ring)) offset) value) in
       record {
         says =
-            both (both p (instead (ap (λ (w : ℕ). sentPart (w % 0x100_0000)) (c .answer) ∙ parts .0) q))
-            (instead (ap (λ (w : ℕ). raisesSay (w / 0x100_0000)) (c .answer) ∙ ap raisesSay (parts .1)) s);
+            both (both p (instead (ap sentPart (c .answer) ∙ parts .0) q))
+            (instead (ap (λ (w : ℕ). raisesSay (w / oneRaise)) (c .answer) ∙ ap raisesSay (parts .1)) s);
         holds = c .holds;
+        spare = c .sparesKept .0;
       }
 
   pub takes : (bytes : List ℕ) {ring′ : List ℕ} → TakesInput (λ p. inputOf p bytes) regs pos ring regs′ pos′ ring′ word
       → Puts out at (text "b ") o₁ a
-      → Puts o₁ a (takenPart (word % 0x100_0000)) o₂ b → Puts o₂ b (raisesSay (word / 0x100_0000)) out′ r
+      → Puts o₁ a (takenPart (word % oneRaise)) o₂ b → Puts o₂ b (raisesSay (word / oneRaise)) out′ r
       → DidInput bytes regs pos ring regs′ pos′ ring′ out at out′ r
   takes bytes c p q s =
       let parts = input-parts (inputOf (portOf regs pos ring) bytes) (few-taken (portOf regs pos ring) bytes (size-of regs pos ring)) in
       record {
         says =
-            both (both p (instead (ap (λ (w : ℕ). takenPart (w % 0x100_0000)) (c .answer) ∙ parts .0) q))
-            (instead (ap (λ (w : ℕ). raisesSay (w / 0x100_0000)) (c .answer) ∙ ap raisesSay (parts .1)) s);
+            both (both p (instead (ap (λ (w : ℕ). takenPart (w % oneRaise)) (c .answer) ∙ parts .0) q))
+            (instead (ap (λ (w : ℕ). raisesSay (w / oneRaise)) (c .answer) ∙ ap raisesSay (parts .1)) s);
         holds = c .holds;
+        spare = c .sparesKept .0;
       }
 
 -- the port as it lies, by its two positions

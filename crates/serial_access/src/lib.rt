@@ -1,5 +1,5 @@
 // The accesses of the serial port and the input to it, each with its answer.
-use serial::answer::ONE_RAISE;
+use common::answer::ONE_RAISE;
 use serial::memory::COUNT;
 use serial::memory::Pos;
 use serial::memory::Regs;
@@ -16,11 +16,19 @@ use words::put::put_byte;
 ghost use Prim.Native.Nat.{ℕ, _+_, _≤_};
 ghost use mathlib.Core.List.{List, _++_};
 ghost use Rattle.serial.specs.Layout.{portOf};
-ghost use Rattle.serial.specs.Port.{roomOf, line};
+ghost use mathlib.Core.Path.{_≡_};
+ghost use Rattle.serial.specs.Port.{readOf, writeOf, roomOf, line};
+ghost use Rattle.serial.specs.Calls.{readWord, writeWord};
 ghost use Rattle.words.specs.Put.{Puts};
 ghost use Rattle.words.specs.Text.{text};
 ghost use Rattle.serial_words.specs.Said.{portSays};
 ghost use Rattle.serial_access.specs.Accesses.{DidRead, DidWrite, DidInput, roomSays, lineSays};
+
+// How much of `out` is used after an access, and the word that the call answered.
+pub struct Done {
+    pub put: usize,
+    pub word: u32,
+}
 
 pub fn write(
     regs: &mut Regs,
@@ -30,18 +38,20 @@ pub fn write(
     value: u8,
     out: &mut Block,
     at: usize,
-) -> usize
+) -> Done
     requires { ⌜ at + 4096 ≤ 65536 ⌝ }
     ensures { λ r. ⌜
         DidWrite offset value (now (regs .entry)) (now (pos .entry)) (now (ring .entry))
-        (now (regs .exit)) (now (pos .exit)) (now (ring .exit)) (now (out .entry)) at (now (out .exit)) r
+        (now (regs .exit)) (now (pos .exit)) (now (ring .exit)) (now (out .entry)) at (now (out .exit)) (r .put)
         ⌝ }
-    ensures { λ r. ⌜ r ≤ at + 4096 ⌝ }
+    ensures { λ r. ⌜ r .put ≤ at + 4096 ⌝ }
+    ensures { λ r. ⌜ r .word ≡ writeWord (writeOf (portOf (now (regs .entry)) (now (pos .entry)) (now (ring .entry))) offset value) ⌝ }
 {
     let does = serial::write(regs, pos, ring, offset, value);
     let a = put(out, at, b"w ");
-    let b = put_sent(out, a, does % ONE_RAISE);
-    put_raises(out, b, does / ONE_RAISE)
+    let b = put_sent(out, a, does);
+    let put = put_raises(out, b, does / ONE_RAISE);
+    Done { put, word: does }
 }
 
 pub fn read(
@@ -51,18 +61,20 @@ pub fn read(
     offset: u8,
     out: &mut Block,
     at: usize,
-) -> usize
+) -> Done
     requires { ⌜ at + 4096 ≤ 65536 ⌝ }
     ensures { λ r. ⌜
         DidRead offset (now (regs .entry)) (now (pos .entry)) (now (ring .entry))
-        (now (regs .exit)) (now (pos .exit)) (now (ring .entry)) (now (out .entry)) at (now (out .exit)) r
+        (now (regs .exit)) (now (pos .exit)) (now (ring .entry)) (now (out .entry)) at (now (out .exit)) (r .put)
         ⌝ }
-    ensures { λ r. ⌜ r ≤ at + 4096 ⌝ }
+    ensures { λ r. ⌜ r .put ≤ at + 4096 ⌝ }
+    ensures { λ r. ⌜ r .word ≡ readWord (readOf (portOf (now (regs .entry)) (now (pos .entry)) (now (ring .entry))) offset) ⌝ }
 {
     let reply = serial::read(regs, pos, ring, offset);
     let a = put(out, at, b"r ");
     let b = put_byte(out, a, (reply % 256) as u8);
-    put_raises(out, b, reply / ONE_RAISE)
+    let put = put_raises(out, b, reply / ONE_RAISE);
+    Done { put, word: reply }
 }
 
 pub fn input(

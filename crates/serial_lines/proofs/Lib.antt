@@ -1,2 +1,4 @@
 mod Saying
 mod Answering
+pub mod Counting
+pub mod Once

@@ -13,6 +13,8 @@ use Rattle.serial.specs.Port.{Out}
 use Rattle.serial.specs.Layout.{size, portOf, spareRegisters, freshSpareRegisters}
 use Rattle.serial.proofs.Bounds.{read-word}
 use Rattle.serial_saved.specs.Saved.{Restore, savedOf, restoreOf}
+use Rattle.common.specs.Answer.{oneRaise}
+use Rattle.serial.specs.Calls.{readWord}
 use Rattle.serial_saved.specs.Calls.{Restores}
 use Rattle.serial_saved.proofs.Bringing.{too-many, enough}
 use Rattle.serial_saved.proofs.Saving.{restore-word}
@@ -27,7 +29,10 @@ use Rattle.serial_lines.specs.Answers.{Brought, Reached, givenIn, restor
 
 -- A reply that is a byte is what a read says, and so are the raises.
 pub read-plainly : (o : Out) → o .reply < 256 → readSays o ≡ text "r " ++ digitsOf (o .reply) ++ raisesSay (o .raises)
-read-plainly o h = let parts = read-word o h in rw (parts .0, parts .1) refl
+read-plainly o h =
+    let parts = read-word o (omega arith) in
+    let low : readWord o % 256 ≡ o .reply = omega (arith, parts .number) in
+    rw (low, parts .raises) refl
 
 -- ---- A port is restored
 
@@ -46,7 +51,7 @@ module _ {regs pos ring saved waiting regs′ pos′ ring′ : List ℕ} {word :
   refused : word ≡ 0x1_0000 → o .refused ≡ true
   refused e = go (b .reachable) (o .refused) (o .raises) (sym (b .answer) ∙ e)
     where
-      go : (reachable refused : Bool) (raises : ℕ) → cond refused 0x1_0000 0 + cond reachable 0x4_0000 0 + 0x100_0000 * raises ≡ 0x1_0000
+      go : (reachable refused : Bool) (raises : ℕ) → cond refused 0x1_0000 0 + cond reachable 0x4_0000 0 + oneRaise * raises ≡ 0x1_0000
           → refused ≡ true
       go reachable true raises e = refl
       go true false raises e = absurd (omega (arith, e))
@@ -65,16 +70,9 @@ module _ {regs pos ring saved waiting regs′ pos′ ring′ : List ℕ} {word :
       go (no l) = ap (λ (o : Restore). o .refused) (enough saved waiting (portOf regs pos ring) (omega arith))
 
   odd : word / 0x4_0000 % 2 ≡ cond (b .reachable) 1 0
-  odd = rw (b .answer) (go (b .reachable) (o .refused))
-    where
-      go : (reachable refused : Bool)
-          → (cond refused 0x1_0000 0 + cond reachable 0x4_0000 0 + 0x100_0000 * o .raises) / 0x4_0000 % 2 ≡ cond reachable 1 0
-      go true true = omega arith
-      go true false = omega arith
-      go false true = omega arith
-      go false false = omega arith
+  odd = rw (b .answer) (restore-word (b .reachable) o .0)
 
-  raises : word / 0x100_0000 ≡ o .raises
+  raises : word / oneRaise ≡ o .raises
   raises = rw (b .answer) (restore-word (b .reachable) o .1 .1)
 
   tells : (b .reachable ≡ true) ↔ Reached (savedOf saved waiting) (spareRegisters saved)
@@ -92,6 +90,13 @@ module _ {regs pos ring saved waiting regs′ pos′ ring′ : List ℕ} {word :
       go (yes e) = rw (eq-eqb word 0x1_0000 e, refused e) refl
       go (no h) = rw (ne-eqb word 0x1_0000 h, not-refused h, raises, odd, reach (b .reachable)) refl
 
+  spare : spareRegisters regs′ ≡ cond (o .refused) (spareRegisters regs) (spareRegisters saved)
+  spare = go (o .refused) refl
+    where
+      go : (t : Bool) → o .refused ≡ t → spareRegisters regs′ ≡ cond (o .refused) (spareRegisters regs) (spareRegisters saved)
+      go true e = rw e (ap spareRegisters (b .unchangedIfRefused e .0))
+      go false e = rw e (ap spareRegisters (b .restored e .0))
+
   pub brings : {out out′ : List ℕ} {at r : ℕ} → Puts out at (broughtPart word) out′ r
       → Brought (savedOf saved waiting) (spareRegisters saved) regs pos ring regs′ pos′ ring′ out at out′ r
-  brings p = record { reached = b .reachable; tells = tells; did = record { says = instead said p; holds = b .holds } }
+  brings p = record { reached = b .reachable; tells = tells; did = record { says = instead said p; holds = b .holds; spare = spare } }

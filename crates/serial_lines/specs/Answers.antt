@@ -1,4 +1,4 @@
--- The serial port's lines and their answers.
+-- The serial port's lines that speak of ports, and their answers.
 use Prim.Native.Nat.{ℕ, _+_, _≤_}
 use mathlib.Core.Path.{_≡_}
 use mathlib.Core.Bool.{Bool, true, false, cond}
@@ -8,6 +8,7 @@ use lib.Dec.{leb}
 use lib.ListN.{take, drop}
 use Rattle.serial.specs.Port.{Port, readOf, writeOf, inputOf, roomOf, line}
 use Rattle.serial.specs.Layout.{size, portOf, spareRegisters, freshSpareRegisters}
+use Rattle.serial.specs.Calls.{readWord, writeWord}
 use Rattle.runs.specs.Reachable.{Reachable}
 use Rattle.serial_saved.specs.Saved.{Restore, savedOf, restoreOf}
 use Rattle.words.specs.Decimal.{decimalOf}
@@ -22,17 +23,17 @@ use Rattle.serial_words.specs.declared.line.Line.the-variants.{Save, Kept, OfPo
 use Rattle.serial_words.specs.declared.line.Access.{Access}
 use Rattle.serial_words.specs.declared.line.Access.the-variants.{Write, Read, InputNone, InputBytes, Room, State, Level, RestoreNone}
 use Rattle.serial_words.specs.declared.line.Access.the-variants.{RestoreBytes, Unknown}
-use Rattle.serial_lines.specs.declared.Ports.{Ports}
+use Rattle.serial_lines.specs.declared.Held.{Held}
 
-abbrev pub portsOf : List ℕ → List ℕ → List ℕ → List ℕ → List ℕ → ℕ → Ports
-portsOf regs pos ring saved waiting count = record { regs = regs; pos = pos; ring = ring; saved = saved; waiting = waiting; count = count }
+abbrev pub heldOf : List ℕ → List ℕ → List ℕ → List ℕ → List ℕ → ℕ → Held
+heldOf regs pos ring saved waiting count = record { regs = regs; pos = pos; ring = ring; saved = saved; waiting = waiting; count = count }
 
-abbrev pub portIn : Ports → Port
-portIn ports = portOf (ports .regs) (ports .pos) (ports .ring)
+abbrev pub portIn : Held → Port
+portIn held = portOf (held .regs) (held .pos) (held .ring)
 
 -- A number above the size says that none was saved.
-abbrev pub keptIn : Ports → Port
-keptIn ports = savedOf (ports .saved) (take (ports .count) (ports .waiting))
+abbrev pub keptIn : Held → Port
+keptIn held = savedOf (held .saved) (take (held .count) (held .waiting))
 
 -- ---- What a line asks for. A port to restore has its spare registers beside it.
 
@@ -67,8 +68,8 @@ givenIn line bytes = record {
 }
 
 -- `restore` alone asks for the port that was saved last.
-abbrev pub asksKept : Ports → Asks
-asksKept ports = cond (leb (ports .count) size) (restore (keptIn ports) (spareRegisters (ports .saved))) nothing
+abbrev pub asksKept : Held → Asks
+asksKept held = cond (leb (held .count) size) (restore (keptIn held) (spareRegisters (held .saved))) nothing
 
 abbrev pub asksPort : Access → List ℕ → Asks
 asksPort (Write offset value) line = write offset value
@@ -82,13 +83,13 @@ asksPort RestoreNone line = restore (givenIn line []) freshSpareRegisters
 asksPort RestoreBytes line = asksWith (drop 35 line) (λ bytes. restore (givenIn line bytes) freshSpareRegisters)
 asksPort Unknown line = nothing
 
-abbrev pub asksBy : Line → Ports → List ℕ → Asks
-asksBy Save ports line = save
-asksBy Kept ports line = asksKept ports
-asksBy (OfPort access) ports line = asksPort access line
+abbrev pub asksBy : Line → Held → List ℕ → Asks
+asksBy Save held line = save
+asksBy Kept held line = asksKept held
+asksBy (OfPort access) held line = asksPort access line
 
-abbrev pub asks : Ports → List ℕ → Asks
-asks ports line = asksBy (lineOf line) ports line
+abbrev pub asks : Held → List ℕ → Asks
+asks held line = asksBy (lineOf line) held line
 
 -- ---- What is said
 
@@ -136,6 +137,18 @@ portThen save p = p
 portThen (restore saved spares) p = restoreOf p saved .port
 portThen nothing p = p
 
+-- Every line keeps the spare registers, but one by which a port is restored: it brings those that were saved with it.
+abbrev pub sparesThen : Asks → Port → List ℕ → List ℕ
+sparesThen (read offset) p now = now
+sparesThen (write offset value) p now = now
+sparesThen (input bytes) p now = now
+sparesThen showRoom p now = now
+sparesThen showState p now = now
+sparesThen showLine p now = now
+sparesThen save p now = now
+sparesThen (restore saved spares) p now = cond (restoreOf p saved .refused) now spares
+sparesThen nothing p now = now
+
 abbrev pub isSave : Asks → Bool
 isSave (read offset) = false
 isSave (write offset value) = false
@@ -147,32 +160,48 @@ isSave save = true
 isSave (restore saved spares) = false
 isSave nothing = false
 
--- After `save` the port is kept, and after every other line what was kept before.
-abbrev pub Keeps : Bool → Ports → Ports → Type 0
-Keeps true ports ports′ = (ports′ .count ≤ size) × (keptIn ports′ ≡ portIn ports)
-Keeps false ports ports′ = (ports′ .saved ≡ ports .saved) × (ports′ .waiting ≡ ports .waiting) × (ports′ .count ≡ ports .count)
+-- After `save` the port is kept with its spare registers, and after every other line what was kept before.
+abbrev pub Keeps : Bool → Held → Held → Type 0
+Keeps true held held′ =
+    (held′ .count ≤ size) × (keptIn held′ ≡ portIn held) × (spareRegisters (held′ .saved) ≡ spareRegisters (held .regs))
+Keeps false held held′ = (held′ .saved ≡ held .saved) × (held′ .waiting ≡ held .waiting) × (held′ .count ≡ held .count)
 
 -- A port was restored.
 pub record Brought (saved : Port) (spares regs pos ring regs′ pos′ ring′ out : List ℕ) (at : ℕ) (out′ : List ℕ) (r : ℕ) : Type 0 where
   pub reached : Bool
   pub tells : (reached ≡ true) ↔ Reached saved spares
   pub did :
-      let o = restoreOf (portOf regs pos ring) saved in Did (restoreSays o reached) (o .port) regs′ pos′ ring′ out at out′ r
+      let o = restoreOf (portOf regs pos ring) saved in
+      Did (restoreSays o reached) (o .port) (cond (o .refused) (spareRegisters regs) spares) regs′ pos′ ring′ out at out′ r
 
 -- What a line asks for was answered.
-pub record Answers (asked : Asks) (ports : Ports) (out : List ℕ) (at : ℕ) (ports′ : Ports) (out′ : List ℕ) (r : ℕ) : Type 0 where
+pub record Answers (asked : Asks) (held : Held) (out : List ℕ) (at : ℕ) (held′ : Held) (out′ : List ℕ) (r : ℕ) : Type 0 where
   pub reached : Bool
   pub tells : Tells asked reached
-  pub said : Puts out at (says asked (portIn ports) reached) out′ r
-  pub port : portIn ports′ ≡ portThen asked (portIn ports)
-  pub kept : Keeps (isSave asked) ports ports′
+  pub said : Puts out at (says asked (portIn held) reached) out′ r
+  pub port : portIn held′ ≡ portThen asked (portIn held)
+  pub spare : spareRegisters (held′ .regs) ≡ sparesThen asked (portIn held) (spareRegisters (held .regs))
+  pub kept : Keeps (isSave asked) held held′
   pub short : r ≤ at + 4096
 
 -- What a line asks of the port alone was answered, whatever was saved.
 abbrev pub AnswersPort : Asks → List ℕ → List ℕ → List ℕ → List ℕ → List ℕ → List ℕ → List ℕ → ℕ → List ℕ → ℕ → Type 0
 AnswersPort asked regs pos ring regs′ pos′ ring′ out at out′ r =
     (saved waiting : List ℕ) (count : ℕ)
-    → Answers asked (portsOf regs pos ring saved waiting count) out at (portsOf regs′ pos′ ring′ saved waiting count) out′ r
+    → Answers asked (heldOf regs pos ring saved waiting count) out at (heldOf regs′ pos′ ring′ saved waiting count) out′ r
 
-abbrev pub AnswersLine : List ℕ → Ports → List ℕ → ℕ → Ports → List ℕ → ℕ → Type 0
-AnswersLine line ports out at ports′ out′ r = Answers (asks ports line) ports out at ports′ out′ r
+abbrev pub AnswersHeld : List ℕ → Held → List ℕ → ℕ → Held → List ℕ → ℕ → Type 0
+AnswersHeld line held out at held′ out′ r = Answers (asks held line) held out at held′ out′ r
+
+-- The word that is counted: a read's or a write's. Every other line has 0, which tells of nothing; so do the words of an input and of a
+-- restore.
+abbrev pub wordThen : Asks → Port → ℕ
+wordThen (read offset) p = readWord (readOf p offset)
+wordThen (write offset value) p = writeWord (writeOf p offset value)
+wordThen (input bytes) p = 0
+wordThen showRoom p = 0
+wordThen showState p = 0
+wordThen showLine p = 0
+wordThen save p = 0
+wordThen (restore saved spares) p = 0
+wordThen nothing p = 0

@@ -5,6 +5,7 @@ use crate::saved::restore_given;
 use serial::memory::Pos;
 use serial::memory::Regs;
 use serial::memory::Ring;
+use serial_access::Done;
 use serial_access::input;
 use serial_access::read;
 use serial_access::room;
@@ -16,9 +17,12 @@ use words::hex::Bytes;
 use words::hex::bytes_from;
 use words::put::unknown;
 ghost use Prim.Native.Nat.{_+_, _≤_};
+ghost use mathlib.Core.Path.{_≡_};
 ghost use lib.ListN.{drop};
-ghost use Rattle.serial_lines.specs.Answers.{AnswersPort, asksPort, asksWith, input};
+ghost use Rattle.serial.specs.Layout.{portOf};
+ghost use Rattle.serial_lines.specs.Answers.{AnswersPort, asksPort, asksWith, wordThen, input};
 
+// What is answered, and the word of an access, or 0.
 pub fn answer(
     access: Access,
     line: &[u8],
@@ -27,27 +31,54 @@ pub fn answer(
     ring: &mut Ring,
     out: &mut Block,
     at: usize,
-) -> usize
+) -> Done
     requires { ⌜ at + 4096 ≤ 65536 ⌝ }
     ensures { λ r. ⌜
         AnswersPort (asksPort access (now (line .entry))) (now (regs .entry)) (now (pos .entry)) (now (ring .entry))
-        (now (regs .exit)) (now (pos .exit)) (now (ring .exit)) (now (out .entry)) at (now (out .exit)) r
+        (now (regs .exit)) (now (pos .exit)) (now (ring .exit)) (now (out .entry)) at (now (out .exit)) (r .put)
+        ⌝ }
+    ensures { λ r. ⌜
+        r .word ≡ wordThen (asksPort access (now (line .entry))) (portOf (now (regs .entry)) (now (pos .entry)) (now (ring .entry)))
         ⌝ }
 {
     match access {
         Access::Write(offset, value) => write(regs, pos, ring, offset, value, out, at),
         Access::Read(offset) => read(regs, pos, ring, offset, out, at),
-        Access::InputNone => input(regs, pos, ring, b"", out, at),
-        Access::InputBytes => input_of(line, regs, pos, ring, out, at),
-        Access::Room => room(pos, out, at),
-        Access::State => state(regs, pos, ring, out, at),
-        Access::Level => serial_access::line(regs, pos, out, at),
+        Access::InputNone => Done {
+            put: input(regs, pos, ring, b"", out, at),
+            word: 0,
+        },
+        Access::InputBytes => Done {
+            put: input_of(line, regs, pos, ring, out, at),
+            word: 0,
+        },
+        Access::Room => Done {
+            put: room(pos, out, at),
+            word: 0,
+        },
+        Access::State => Done {
+            put: state(regs, pos, ring, out, at),
+            word: 0,
+        },
+        Access::Level => Done {
+            put: serial_access::line(regs, pos, out, at),
+            word: 0,
+        },
         Access::RestoreNone => {
             let given = regs_in(line);
-            restore(regs, pos, ring, &given, b"", out, at)
+            Done {
+                put: restore(regs, pos, ring, &given, b"", out, at),
+                word: 0,
+            }
         }
-        Access::RestoreBytes => restore_given(line, regs, pos, ring, out, at),
-        Access::Unknown => unknown(out, at),
+        Access::RestoreBytes => Done {
+            put: restore_given(line, regs, pos, ring, out, at),
+            word: 0,
+        },
+        Access::Unknown => Done {
+            put: unknown(out, at),
+            word: 0,
+        },
     }
 }
 

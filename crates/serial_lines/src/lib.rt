@@ -1,29 +1,42 @@
 // The lines of the serial port.
 mod access;
+mod counted;
 mod saved;
 
+use counters::SerialCounters;
 use serial::memory::Pos;
 use serial::memory::Regs;
 use serial::memory::Ring;
 use serial::memory::SIZE;
+use serial_access::Done;
 use serial_words::line;
 use serial_words::line::Line;
 use words::Block;
+use words::pattern::fits;
 ghost use Prim.Native.Nat.{_+_, _≤_, _<_};
+ghost use mathlib.Core.Path.{_≡_};
 ghost use mathlib.Core.Bool.{false};
 ghost use Rattle.serial.specs.Calls.{MakesFresh};
 ghost use Rattle.serial.specs.Layout.{size};
-ghost use Rattle.serial_lines.specs.Answers.{AnswersLine, Keeps, portsOf};
+ghost use Rattle.counters.specs.Counters.{freshSerial};
+ghost use Rattle.serial_lines.specs.Answers.{AnswersHeld, Keeps, asks, heldOf, portIn, wordThen};
+ghost use Rattle.serial_lines.specs.Counted.{AnswersPorts, countersIn};
 
 // The serial port, in `regs`, `pos` and `ring`, and the one that was saved last: its registers, its
 // waiting bytes, and how many there are, or more than `SIZE` where none was saved yet.
-pub struct Ports {
+pub struct Held {
     pub regs: Regs,
     pub pos: Pos,
     pub ring: Ring,
     pub saved: Regs,
     pub waiting: Ring,
     pub count: u32,
+}
+
+// The ports, and what was counted since the port was named.
+pub struct Ports {
+    pub held: Held,
+    pub counters: SerialCounters,
 }
 
 // The ports after a line, and how much of `out` is used.
@@ -34,51 +47,80 @@ pub struct Said {
 
 // No port was begun and none saved.
 pub fn start() -> Ports
-    ensures { λ r. ⌜ size < r .count ⌝ }
+    ensures { λ r. ⌜ size < r .held .count ⌝ }
 {
     Ports {
-        regs: [0; 16],
-        pos: [0; 4],
-        ring: [0; 1024],
-        saved: [0; 16],
-        waiting: [0; 1024],
-        count: SIZE + 1,
+        held: Held {
+            regs: [0; 16],
+            pos: [0; 4],
+            ring: [0; 1024],
+            saved: [0; 16],
+            waiting: [0; 1024],
+            count: SIZE + 1,
+        },
+        counters: [0; 4],
     }
 }
 
-// Makes the serial port a fresh one, and leaves what was saved.
+// Makes the serial port a fresh one with nothing counted, and leaves what was saved.
 pub fn begin(ports: Ports) -> Ports
-    ensures { λ r. ⌜ MakesFresh (r .regs) (r .pos) ⌝ }
-    ensures { λ r. ⌜ Keeps false ports r ⌝ }
+    ensures { λ r. ⌜ MakesFresh (r .held .regs) (r .held .pos) ⌝ }
+    ensures { λ r. ⌜ Keeps false (ports .held) (r .held) ⌝ }
+    ensures { λ r. ⌜ countersIn r ≡ freshSerial ⌝ }
 {
-    let mut regs = ports.regs;
-    let mut pos = ports.pos;
-    let ring = ports.ring;
-    let saved = ports.saved;
-    let waiting = ports.waiting;
+    let held = ports.held;
+    let mut regs = held.regs;
+    let mut pos = held.pos;
+    let ring = held.ring;
+    let saved = held.saved;
+    let waiting = held.waiting;
     serial::init(&mut regs, &mut pos);
-    Ports {
+    let mut counters = ports.counters;
+    counters::serial_init(&mut counters);
+    let held = Held {
         regs,
         pos,
         ring,
         saved,
         waiting,
-        count: ports.count,
-    }
+        count: held.count,
+    };
+    Ports { held, counters }
 }
 
-// The port is taken out of `ports` once for each line: the functions below change it in its place.
 pub fn answer(line: &[u8], ports: Ports, out: &mut Block, at: usize) -> Said
     requires { ⌜ at + 4096 ≤ 65536 ⌝ }
-    ensures { λ r. ⌜ AnswersLine (now (line .entry)) ports (now (out .entry)) at (r .ports) (now (out .exit)) (r .put) ⌝ }
+    ensures { λ r. ⌜ AnswersPorts (now (line .entry)) ports (now (out .entry)) at (r .ports) (now (out .exit)) (r .put) ⌝ }
 {
-    let mut regs = ports.regs;
-    let mut pos = ports.pos;
-    let mut ring = ports.ring;
-    let mut saved = ports.saved;
-    let mut waiting = ports.waiting;
-    let mut count = ports.count;
-    let put = answer_in(
+    if fits(line, b"counters") {
+        return counted::show(ports, out, at);
+    }
+    if fits(line, b"lost") {
+        return counted::lost(ports, out, at);
+    }
+    counted::count(line, ports, out, at)
+}
+
+// What a line about ports leaves: they, how much of `out` is used, and the word of an access.
+struct Answered {
+    held: Held,
+    put: usize,
+    word: u32,
+}
+
+// The port is taken out of `held` once for each line: the functions below change it in its place.
+fn answer_held(line: &[u8], held: Held, out: &mut Block, at: usize) -> Answered
+    requires { ⌜ at + 4096 ≤ 65536 ⌝ }
+    ensures { λ r. ⌜ AnswersHeld (now (line .entry)) held (now (out .entry)) at (r .held) (now (out .exit)) (r .put) ⌝ }
+    ensures { λ r. ⌜ r .word ≡ wordThen (asks held (now (line .entry))) (portIn held) ⌝ }
+{
+    let mut regs = held.regs;
+    let mut pos = held.pos;
+    let mut ring = held.ring;
+    let mut saved = held.saved;
+    let mut waiting = held.waiting;
+    let mut count = held.count;
+    let done = answer_in(
         line,
         &mut regs,
         &mut pos,
@@ -89,7 +131,7 @@ pub fn answer(line: &[u8], ports: Ports, out: &mut Block, at: usize) -> Said
         out,
         at,
     );
-    let ports = Ports {
+    let held = Held {
         regs,
         pos,
         ring,
@@ -97,7 +139,11 @@ pub fn answer(line: &[u8], ports: Ports, out: &mut Block, at: usize) -> Said
         waiting,
         count,
     };
-    Said { ports, put }
+    Answered {
+        held,
+        put: done.put,
+        word: done.word,
+    }
 }
 
 fn answer_in(
@@ -110,22 +156,33 @@ fn answer_in(
     count: &mut u32,
     out: &mut Block,
     at: usize,
-) -> usize
+) -> Done
     requires { ⌜ at + 4096 ≤ 65536 ⌝ }
     ensures { λ r. ⌜
-        AnswersLine (now (line .entry))
-        (portsOf (now (regs .entry)) (now (pos .entry)) (now (ring .entry))
+        AnswersHeld (now (line .entry))
+        (heldOf (now (regs .entry)) (now (pos .entry)) (now (ring .entry))
         (now (saved .entry)) (now (waiting .entry)) (now (count .entry)))
         (now (out .entry)) at
-        (portsOf (now (regs .exit)) (now (pos .exit)) (now (ring .exit))
+        (heldOf (now (regs .exit)) (now (pos .exit)) (now (ring .exit))
         (now (saved .exit)) (now (waiting .exit)) (now (count .exit)))
-        (now (out .exit)) r
+        (now (out .exit)) (r .put)
+        ⌝ }
+    ensures { λ r. ⌜
+        (let held = heldOf (now (regs .entry)) (now (pos .entry)) (now (ring .entry))
+        (now (saved .entry)) (now (waiting .entry)) (now (count .entry)) in
+        r .word ≡ wordThen (asks held (now (line .entry))) (portIn held))
         ⌝ }
 {
     let asked = line::parse(line);
     match asked {
-        Line::Save => saved::save(regs, pos, ring, saved, waiting, count, out, at),
-        Line::Kept => saved::restore_kept(regs, pos, ring, saved, waiting, *count, out, at),
+        Line::Save => {
+            let put = saved::save(regs, pos, ring, saved, waiting, count, out, at);
+            Done { put, word: 0 }
+        }
+        Line::Kept => {
+            let put = saved::restore_kept(regs, pos, ring, saved, waiting, *count, out, at);
+            Done { put, word: 0 }
+        }
         Line::OfPort(access) => access::answer(access, line, regs, pos, ring, out, at),
     }
 }

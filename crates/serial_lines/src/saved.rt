@@ -17,7 +17,7 @@ ghost use mathlib.Core.List.{List};
 ghost use lib.ListN.{drop};
 ghost use Rattle.serial.specs.Layout.{spareRegisters, freshSpareRegisters};
 ghost use Rattle.serial_saved.specs.Saved.{savedOf};
-ghost use Rattle.serial_lines.specs.Answers.{Answers, AnswersPort, Brought, portsOf, asksKept, asksWith, givenIn, restore, save};
+ghost use Rattle.serial_lines.specs.Answers.{Answers, AnswersPort, Brought, heldOf, asksKept, asksWith, givenIn, restore, save};
 
 // As many bytes may wait.
 const SIZE: usize = memory::SIZE as usize;
@@ -35,10 +35,10 @@ pub fn save(
     requires { ⌜ at + 4096 ≤ 65536 ⌝ }
     ensures { λ r. ⌜
         Answers save
-        (portsOf (now (regs .entry)) (now (pos .entry)) (now (ring .entry))
+        (heldOf (now (regs .entry)) (now (pos .entry)) (now (ring .entry))
         (now (saved .entry)) (now (waiting .entry)) (now (count .entry)))
         (now (out .entry)) at
-        (portsOf (now (regs .entry)) (now (pos .entry)) (now (ring .entry))
+        (heldOf (now (regs .entry)) (now (pos .entry)) (now (ring .entry))
         (now (saved .exit)) (now (waiting .exit)) (now (count .exit)))
         (now (out .exit)) r
         ⌝ }
@@ -62,9 +62,9 @@ pub fn restore_kept(
 ) -> usize
     requires { ⌜ at + 4096 ≤ 65536 ⌝ }
     ensures { λ r. ⌜
-        (let ports = portsOf (now (regs .entry)) (now (pos .entry)) (now (ring .entry)) (now (saved .entry)) (now (waiting .entry)) count in
-        Answers (asksKept ports) ports (now (out .entry)) at
-        (portsOf (now (regs .exit)) (now (pos .exit)) (now (ring .exit)) (now (saved .entry)) (now (waiting .entry)) count)
+        (let held = heldOf (now (regs .entry)) (now (pos .entry)) (now (ring .entry)) (now (saved .entry)) (now (waiting .entry)) count in
+        Answers (asksKept held) held (now (out .entry)) at
+        (heldOf (now (regs .exit)) (now (pos .exit)) (now (ring .exit)) (now (saved .entry)) (now (waiting .entry)) count)
         (now (out .exit)) r)
         ⌝ }
 {

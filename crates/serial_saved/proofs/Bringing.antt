@@ -15,7 +15,8 @@ use Rattle.ring.specs.Ring.{queue}
 use Rattle.serial.specs.Layout.{size, places, startOf, countOf, portOf, sparePositions}
 use Rattle.ring.specs.Ring.{Put, Unrolled}
 use Rattle.serial.proofs.Answering.{waiting-length}
-use Rattle.serial_saved.specs.Saved.{savedOf, raisedAgain, Restore, restoreOf}
+use Rattle.serial_saved.specs.Saved.{savedOf, raisedAgain, restoreOf}
+use Rattle.common.specs.Answer.{oneRaise}
 use Rattle.serial_saved.specs.Calls.{Saves, ReachableSaved, Restores}
 
 -- Registers and waiting bytes are the whole port.
@@ -84,7 +85,7 @@ module _ (saved waiting : List ℕ) where
       → Put places ring 0 0 (take (length waiting) waiting) ring′ (0 + length waiting) → (reachable ≡ true) ↔ ReachableSaved saved waiting
       → raises ≡ length (raisedAgain (savedOf saved waiting))
       → Restores regs pos ring saved waiting regs′ (set (set pos 0 0) 1 (length waiting)) ring′
-      (0x4_0000 * boolByte reachable + 0x100_0000 * raises)
+      (0x4_0000 * boolByte reachable + oneRaise * raises)
   unfolding queue
   restores regs pos ring regs′ ring′ raises reachable h l c put k e =
       let z : 0 + length waiting ≡ length waiting = zero-add (length waiting) in

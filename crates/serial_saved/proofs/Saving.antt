@@ -7,7 +7,7 @@ use mathlib.Core.Bool.{Bool, true, false, cond, false≢true}
 use mathlib.Core.List.{List, [], _∷_, _++_, List·Nodup, nodup-nil, nodup-cons, not-mem-nil}
 use mathlib.Core.List.{List·Memᴰ, List·Memᴰ·head, List·Memᴰ·append-cases, List·Memᴰ·eq-of-singleton, List·Memᴰ·not-nil}
 use mathlib.Core.List.{Memᴰ·append-left, Memᴰ·append-right}
-use Prim.Native.Nat.{ℕ, _+_, _*_, _/_, _%_, _≤_, _<_}
+use Prim.Native.Nat.{ℕ, _+_, _/_, _%_, _≤_, _<_}
 use native.Mathlib.Omega.{arith}
 use lib.ListN.{length, take}
 use Rattle.interrupts.specs.Interrupts.{Kind, receivedData, transmitterEmpty}
@@ -16,6 +16,8 @@ use Rattle.serial.specs.Layout.{size, portOf, spareRegisters, freshSpareRegiste
 use Rattle.runs.specs.Reachable.{Reachable}
 use Rattle.serial.proofs.Bounds.{memory-fits}
 use Rattle.serial_saved.specs.Saved.{savedOf, ifActive, raisedAgain, Restore, restoreOf}
+use Rattle.common.specs.Answer.{oneRaise}
+use Rattle.common.proofs.Words.{parts}
 use Rattle.serial_saved.specs.Calls.{Saves, restoreWord, ReachableSaved, Restores}
 use Rattle.serial_saved.proofs.Raising.{at-most-two}
 use Rattle.serial_saved.proofs.Bringing.{too-many, enough}
@@ -23,15 +25,10 @@ use Rattle.serial_saved.proofs.Bringing.{too-many, enough}
 -- ---- The word of a restore, taken apart
 
 pub restore-word : (reachable : Bool) (o : Restore) → let word = restoreWord reachable o in
-    (word / 0x4_0000 % 2 ≡ cond reachable 1 0) × ((word / 0x1_0000 % 2 ≡ cond (o .refused) 1 0) × (word / 0x100_0000 ≡ o .raises))
-restore-word reachable o = go reachable (o .refused)
-  where
-    go : (reachable refused : Bool) → let word = cond refused 0x1_0000 0 + cond reachable 0x4_0000 0 + 0x100_0000 * o .raises in
-        (word / 0x4_0000 % 2 ≡ cond reachable 1 0) × ((word / 0x1_0000 % 2 ≡ cond refused 1 0) × (word / 0x100_0000 ≡ o .raises))
-    go true true = (omega arith, (omega arith, omega arith))
-    go true false = (omega arith, (omega arith, omega arith))
-    go false true = (omega arith, (omega arith, omega arith))
-    go false false = (omega arith, (omega arith, omega arith))
+    (word / 0x4_0000 % 2 ≡ cond reachable 1 0) × ((word / 0x1_0000 % 2 ≡ cond (o .refused) 1 0) × (word / oneRaise ≡ o .raises))
+restore-word reachable o =
+    let p = parts 0 (o .refused) false reachable false false false false false (o .raises) (restoreWord reachable o) (omega arith) (omega arith) in
+    (p .reachable, (p .refused, p .raises))
 
 one : (t : Bool) → (_≡_ {A = ℕ} (cond t 1 0) 1) ↔ (t ≡ true)
 one true = (λ e. refl, λ e. refl)
@@ -41,21 +38,21 @@ module _ {regs pos ring saved waiting regs′ pos′ ring′ : List ℕ} {r : �
   abbrev o : Restore
   o = restoreOf (portOf regs pos ring) (savedOf saved waiting)
 
-  parts : (r / 0x4_0000 % 2 ≡ cond (b .reachable) 1 0) × ((r / 0x1_0000 % 2 ≡ cond (o .refused) 1 0) × (r / 0x100_0000 ≡ o .raises))
-  parts = rw (b .answer) (restore-word (b .reachable) o)
+  told-parts : (r / 0x4_0000 % 2 ≡ cond (b .reachable) 1 0) × ((r / 0x1_0000 % 2 ≡ cond (o .refused) 1 0) × (r / oneRaise ≡ o .raises))
+  told-parts = rw (b .answer) (restore-word (b .reachable) o)
 
   -- The word says "reachable" exactly of the ports that runs from a fresh one reach, with the spare registers at 0 ..
   pub reachable-exactly : (r / 0x4_0000 % 2 ≡ 1) ↔ ReachableSaved saved waiting
   reachable-exactly =
       let t = one (b .reachable) in
-      (λ e. b .exact .0 (t .0 (sym (parts .0) ∙ e)), λ k. parts .0 ∙ t .1 (b .exact .1 k))
+      (λ e. b .exact .0 (t .0 (sym (told-parts .0) ∙ e)), λ k. told-parts .0 ∙ t .1 (b .exact .1 k))
 
   -- .. and "refused" exactly where more bytes wait than there is room for. Then nothing is raised, and else each active kind.
-  pub not-refused : length waiting ≤ size → (r / 0x1_0000 % 2 ≡ 0) × (r / 0x100_0000 ≡ length (raisedAgain (savedOf saved waiting)))
-  not-refused h = rw (enough saved waiting (portOf regs pos ring) h) at (parts .1)
+  pub not-refused : length waiting ≤ size → (r / 0x1_0000 % 2 ≡ 0) × (r / oneRaise ≡ length (raisedAgain (savedOf saved waiting)))
+  not-refused h = rw (enough saved waiting (portOf regs pos ring) h) at (told-parts .1)
 
-  pub refused : size < length waiting → (r / 0x1_0000 % 2 ≡ 1) × (r / 0x100_0000 ≡ 0)
-  refused h = rw (too-many saved waiting (portOf regs pos ring) h) at (parts .1)
+  pub refused : size < length waiting → (r / 0x1_0000 % 2 ≡ 1) × (r / oneRaise ≡ 0)
+  refused h = rw (too-many saved waiting (portOf regs pos ring) h) at (told-parts .1)
 
   -- Where it is not refused the memory holds what was saved.
   pub brought-back : length waiting ≤ size → portOf regs′ pos′ ring′ ≡ savedOf saved waiting

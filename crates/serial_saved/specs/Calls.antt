@@ -6,7 +6,7 @@ use mathlib.Core.List.{List, _∷_}
 use mathlib.Core.Bool.{Bool, true, false, cond}
 use lib.ListN.{length, take, drop}
 use Rattle.serial.specs.Layout.{size, portOf, unusedOf, spareRegisters, sparePositions, freshSpareRegisters}
-use Rattle.serial.specs.Calls.{refusedBit, reachableBit, oneRaise}
+use Rattle.common.specs.Answer.{refusedBit, reachableBit, oneRaise}
 use Rattle.runs.specs.Reachable.{Reachable}
 use Rattle.serial_saved.specs.Saved.{savedOf, Restore, restoreOf}
 

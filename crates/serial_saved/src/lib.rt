@@ -1,9 +1,9 @@
 // A serial port is saved and restored.
 mod reachable;
 
-use serial::answer::ONE_RAISE;
-use serial::answer::REACHABLE;
-use serial::answer::REFUSED;
+use common::answer::ONE_RAISE;
+use common::answer::REACHABLE;
+use common::answer::REFUSED;
 use serial::memory;
 use serial::memory::COUNT;
 use serial::memory::IER;

@@ -7,6 +7,7 @@ use native.Mathlib.Nat.{mod-mod}
 use native.Mathlib.Omega.{arith}
 use borrow.Author.Tests.{lt-ltb, le-ltb, eq-eqb, ne-eqb}
 use lib.ListN.{getD, take}
+use Rattle.common.specs.Answer.{sentBit, oneRaise}
 use Rattle.common.specs.Lists.{some}
 use Rattle.ring.specs.Ring.{queue}
 use Rattle.ring.proofs.Laws.{queue-length, queue-round, queue-split}
@@ -22,11 +23,11 @@ use Rattle.serial_words.specs.Said.{bytesSay, nextByte, registersSay, wa
 -- ---- The parts of a word
 
 module _ {out out′ : List ℕ} {at r : ℕ} (n : ℕ) where
-  pub none-sent : n < 0x2_0000 → Puts out at (text "--") out′ r → Puts out at (sentPart n) out′ r
-  none-sent h p = rw (lt-ltb n 0x2_0000 h) p
+  pub none-sent : n / sentBit % 2 ≡ 0 → Puts out at (text "--") out′ r → Puts out at (sentPart n) out′ r
+  none-sent h p = rw (eq-eqb (n / sentBit % 2) 0 h) p
 
-  pub one-sent : 0x2_0000 ≤ n → Puts out at (digitsOf (n % 256)) out′ r → Puts out at (sentPart n) out′ r
-  one-sent h p = rw (le-ltb n 0x2_0000 h) p
+  pub one-sent : (n / sentBit % 2 ≡ 0 → ⊥) → Puts out at (digitsOf (n % 256)) out′ r → Puts out at (sentPart n) out′ r
+  one-sent h p = rw (ne-eqb (n / sentBit % 2) 0 h) p
 
   pub some-taken : n < 0x1_0000 → Puts out at (decimalOf n) out′ r → Puts out at (takenPart n) out′ r
   some-taken h p = rw (lt-ltb n 0x1_0000 h) p
@@ -34,7 +35,7 @@ module _ {out out′ : List ℕ} {at r : ℕ} (n : ℕ) where
   pub full : 0x1_0000 ≤ n → Puts out at (text "full") out′ r → Puts out at (takenPart n) out′ r
   full h p = rw (le-ltb n 0x1_0000 h) p
 
-  module _ {o₁ o₂ : List ℕ} {a b : ℕ} (p : Puts out at (text "restore ") o₁ a) (q : Puts o₁ a (decimalOf (n / 0x100_0000)) o₂ b)
+  module _ {o₁ o₂ : List ℕ} {a b : ℕ} (p : Puts out at (text "restore ") o₁ a) (q : Puts o₁ a (decimalOf (n / oneRaise)) o₂ b)
       (h : n ≡ 0x1_0000 → ⊥) where
     pub reached : n / 0x4_0000 % 2 ≡ 1 → Puts o₂ b (text " reached\n") out′ r → Puts out at (broughtPart n) out′ r
     reached e s = rw (ne-eqb n 0x1_0000 h, eq-eqb (n / 0x4_0000 % 2) 1 e) (both (both p q) s)

@@ -4,14 +4,14 @@ use Prim.Native.Nat.{ℕ, _/_, _%_}
 use mathlib.Core.Bool.{cond}
 use mathlib.Core.List.{List, _++_}
 use lib.Dec.{eqb, ltb}
-use Rattle.serial.specs.Calls.{refusedBit, sentBit, reachableBit, oneRaise}
+use Rattle.common.specs.Answer.{refusedBit, sentBit, reachableBit, oneRaise}
 use Rattle.words.specs.Decimal.{decimalOf}
 use Rattle.words.specs.Hex.{digitsOf}
 use Rattle.words.specs.Text.{text}
 
--- The byte that was sent and its bit, or a number below that for none.
+-- After a write: the byte that was sent, where the bit says that one was.
 abbrev pub sentPart : ℕ → List ℕ
-sentPart sent = cond (ltb sent sentBit) (text "--") (digitsOf (sent % 256))
+sentPart word = cond (eqb (word / sentBit % 2) 0) (text "--") (digitsOf (word % 256))
 
 -- How many bytes were taken, or a number from the bit of refusal on for a full port.
 abbrev pub takenPart : ℕ → List ℕ

@@ -1,8 +1,8 @@
 // The parts of the word that a call of the port answers.
-use serial::answer::ONE_RAISE;
-use serial::answer::REACHABLE;
-use serial::answer::REFUSED;
-use serial::answer::SENT;
+use common::answer::ONE_RAISE;
+use common::answer::REACHABLE;
+use common::answer::REFUSED;
+use common::answer::SENT;
 use words::Block;
 use words::decimal::put_decimal;
 use words::put::put;
@@ -12,16 +12,16 @@ ghost use Rattle.words.specs.Put.{Puts};
 ghost use Rattle.serial_words.specs.Inside.{sentPart, takenPart, broughtPart};
 ghost use Rattle.serial_words.specs.Said.{raisesSay};
 
-// The byte that was sent and `SENT`, or a number below that for none.
-pub fn put_sent(out: &mut Block, at: usize, sent: u32) -> usize
+// The byte that was sent by a write, of which `wrote` is the word.
+pub fn put_sent(out: &mut Block, at: usize, wrote: u32) -> usize
     requires { ⌜ at + 2 ≤ 65536 ⌝ }
-    ensures { λ r. ⌜ Puts (now (out .entry)) at (sentPart sent) (now (out .exit)) r ⌝ }
+    ensures { λ r. ⌜ Puts (now (out .entry)) at (sentPart wrote) (now (out .exit)) r ⌝ }
     ensures { λ r. ⌜ r ≤ at + 2 ⌝ }
 {
-    if sent < SENT {
+    if wrote / SENT % 2 == 0 {
         return put(out, at, b"--");
     }
-    put_byte(out, at, (sent % 256) as u8)
+    put_byte(out, at, (wrote % 256) as u8)
 }
 
 // How many bytes were taken, or a number from `REFUSED` on for a full port.

@@ -2,7 +2,7 @@
 ghost use mathlib.Core.Path.{_≡_};
 ghost use Rattle.serialpost.specs.Version.{version};
 
-const VERSION: u32 = 2;
+const VERSION: u32 = 3;
 
 #[no_mangle]
 pub extern "C" fn serialpost_raw_version() -> u32

@@ -10,12 +10,12 @@ use borrow.Author.Tests.{ne-eqb}
 use Rattle.interrupts.specs.Interrupts.{receivedData}
 use Rattle.serial.specs.Port.{Register, RBR-THR, IER, IIR-FCR, LCR, MCR, LSR, MSR, SCR, DLL, DLM, reserved, addressed, Port, isOpen, inLoop}
 use Rattle.serial.specs.Port.{hasRoom, roomOf}
-use Rattle.serial.specs.Port.{Out, readRegister, writeRegister, inputOf}
+use Rattle.serial.specs.Port.{Out, noEvents, readRegister, writeRegister, inputOf}
 use Rattle.runs.specs.Run.{Op, read, write, input, room, Answer, replied, sent, took, full, raisesOf, didInput, step}
 use Rattle.runs.specs.Run as runs
 use Rattle.vm_superio.specs.Original.{Original}
 use Rattle.vm_superio.specs.Original as original
-use Rattle.vm_superio.specs.Beside.{enables, waits, marksData, Row, reads, writes, receives, asks, original-data-again}
+use Rattle.vm_superio.specs.Beside.{heard, asOriginal, enables, waits, marksData, Row, reads, writes, receives, asks, original-data-again}
 use Rattle.vm_superio.specs.Beside.{original-data-quiet, Beside, Exact}
 use Rattle.vm_superio.proofs.Marks.{once}
 use Rattle.vm_superio.proofs.Twins.{twin, Held, twins}
@@ -27,11 +27,11 @@ use Rattle.vm_superio.proofs.Writing.{WriteAgrees, thr-complete, thr-re
 -- ---- Reads: of IIR, and of all others, which answer the same
 
 abbrev ReadAgrees : Out → original.Out → Type 0
-ReadAgrees o e = replied (o .reply) (o .raises) ≡ replied (e .reply) (e .raises)
+ReadAgrees o e = replied (o .reply) (asOriginal (o .events)) (o .raises) ≡ replied (e .reply) (e .events) (e .raises)
 
 abbrev reply-of : Answer → ℕ
-reply-of (replied v n) = v
-reply-of (sent s n) = 0
+reply-of (replied v e n) = v
+reply-of (sent s e n) = 0
 reply-of (took t n) = 0
 reply-of (full n) = 0
 reply-of (runs.hasRoom r) = 0
@@ -41,7 +41,7 @@ module _ (p : Port) (j : ℕ) where
   unfolding readRegister original.readRegister original.readRbr
   read-complete RBR-THR = inl refl
   read-complete IER = inl refl
-  read-complete IIR-FCR = elim (iir-complete p j) [ inl e ↦ inl (ap (λ (v : ℕ). replied v 0) e) | inr row ↦ inr row ]
+  read-complete IIR-FCR = elim (iir-complete p j) [ inl e ↦ inl (ap (λ (v : ℕ). replied v noEvents 0) e) | inr row ↦ inr row ]
   read-complete LCR = inl refl
   read-complete MCR = inl refl
   read-complete LSR = inl refl
@@ -83,7 +83,7 @@ module _ (p : Port) (j : ℕ) (h : Held p j) where
 
 module _ (p : Port) (j : ℕ) where
   abbrev InputAgrees : List ℕ → Type 0
-  InputAgrees bytes = didInput (inputOf p bytes) .answer ≡ original.inputOf (twin p j) bytes .answer
+  InputAgrees bytes = heard (didInput (inputOf p bytes) .answer) ≡ original.inputOf (twin p j) bytes .answer
 
   -- ours raises; the original raises
   abbrev first : Bool
@@ -100,7 +100,7 @@ module _ (p : Port) (j : ℕ) where
     abbrev count : ℕ
     count = min (roomOf p) (length bytes)
 
-    ours-takes : didInput (inputOf p bytes) .answer ≡ took count (once first)
+    ours-takes : heard (didInput (inputOf p bytes) .answer) ≡ took count (once first)
     unfolding inputOf
     ours-takes = rw (l, ne-eqb (length bytes) 0 (omega arith), r) (ap (took count) (ours-receives p j (take count bytes)))
 

@@ -1,5 +1,5 @@
 -- Every call leaves the two the same but for IIR, and answers the same but for IIR's reply and the raises.
-use mathlib.Core.Path.{_≡_, refl, sym, ap, subst, _∙_}
+use mathlib.Core.Path.{_≡_, refl, sym, subst, _∙_}
 use mathlib.Core.List.{List, [], _∷_, tail}
 use mathlib.Core.Bool.{Bool, true, false, cond, false≢true}
 use Prim.Native.Nat.{ℕ, zero, suc, _+_, _<_}
@@ -11,13 +11,13 @@ use Rattle.common.specs.Lists.{some}
 use Rattle.interrupts.specs.Interrupts.{ierStored}
 use Rattle.interrupts.proofs.Laws.{set-active}
 use Rattle.serial.specs.Port.{Register, RBR-THR, IER, IIR-FCR, LCR, MCR, LSR, MSR, SCR, DLL, DLM, reserved, addressed, Port, isOpen, inLoop}
-use Rattle.serial.specs.Port.{hasRoom}
+use Rattle.serial.specs.Port.{hasRoom, Events, noEvents, loopEvents}
 use Rattle.serial.specs.Port.{Out, receives, transmits, emptied, writeLine, writeLoop, writeIer, readRegister, writeRegister, Input}
 use Rattle.serial.specs.Port.{inputOf}
 use Rattle.runs.specs.Run.{Op, read, write, input, room, replied, Did, didInput, step}
 use Rattle.vm_superio.specs.Original.{Original}
 use Rattle.vm_superio.specs.Original as original
-use Rattle.vm_superio.specs.Beside.{Beside, isIirRead, common}
+use Rattle.vm_superio.specs.Beside.{asOriginal, Beside, isIirRead, common}
 use Rattle.vm_superio.proofs.Marks.{data-unmarked-keeps, data-announced-keeps}
 use Rattle.vm_superio.proofs.Raising.{read-keeps, came-keeps, sent-active}
 use Rattle.vm_superio.proofs.Twins.{twin, is-same, Held, twins}
@@ -72,10 +72,11 @@ record Alike (iir : Bool) (o : Out) (e : original.Out) : Type 0 where
   pub beside : Beside (o .port) (e .original)
   pub reply : cond iir 0 (o .reply) ≡ cond iir 0 (e .reply)
   pub sent : o .sent ≡ e .sent
+  pub events : asOriginal (o .events) ≡ e .events
 
 module _ (p : Port) (j : ℕ) (h : Held p j) where
-  plainly : (v : ℕ) → Alike false (record { port = p; reply = v; sent = []; raises = 0 }) (original.replies (twin p j) v)
-  plainly v = record { beside = record { same = is-same p j; marked = h }; reply = refl; sent = refl }
+  plainly : (v : ℕ) → Alike false (record { port = p; reply = v; sent = []; events = noEvents; raises = 0 }) (original.replies (twin p j) v)
+  plainly v = record { beside = record { same = is-same p j; marked = h }; reply = refl; sent = refl; events = refl }
 
   read-alike : (r : Register) → Alike (isIir r) (readRegister p r) (original.readRegister (twin p j) r)
   unfolding isIir readRegister original.readRegister original.readRbr
@@ -87,9 +88,10 @@ module _ (p : Port) (j : ℕ) (h : Held p j) where
     };
     reply = refl;
     sent = refl;
+    events = refl;
   }
   read-alike IER = plainly (p .settings .ier)
-  read-alike IIR-FCR = record { beside = record { same = is-same _ _; marked = λ m e. absurd (false≢true m) }; reply = refl; sent = refl }
+  read-alike IIR-FCR = record { beside = record { same = is-same _ _; marked = λ m e. absurd (false≢true m) }; reply = refl; sent = refl; events = refl }
   read-alike LCR = plainly _
   read-alike MCR = plainly _
   read-alike LSR = plainly _
@@ -116,14 +118,15 @@ module _ (p : Port) (j : ℕ) (h : Held p j) where
   loop-alike : (v : ℕ) → Alike false (writeLoop p v) (original.writeLoop (twin p j) v)
   unfolding writeLoop receives original.receives
   loop-alike v =
-      side-by-side (λ (o : Out) (e : original.Out). Alike false (record { port = o .port; reply = 0; sent = []; raises = transmits p .raises + o .raises }) e)
+      side-by-side (λ (o : Out) (e : original.Out). Alike false
+      (record { port = o .port; reply = 0; sent = []; events = loopEvents (hasRoom p); raises = transmits p .raises + o .raises }) e)
       (hasRoom p)
-      (record { beside = receives-beside (emptied p) j (emptied-held p j) (v ∷ []); reply = refl; sent = refl })
-      (record { beside = record { same = is-same _ _; marked = emptied-held p j }; reply = refl; sent = refl })
+      (record { beside = receives-beside (emptied p) j (emptied-held p j) (v ∷ []); reply = refl; sent = refl; events = refl })
+      (record { beside = record { same = is-same _ _; marked = emptied-held p j }; reply = refl; sent = refl; events = refl })
 
   line-alike : (v : ℕ) → Alike false (writeLine p v) (original.writeLine (twin p j) v)
   unfolding writeLine original.writeLine
-  line-alike v = record { beside = record { same = is-same _ _; marked = emptied-held p (original.writeLine (twin p j) v .original .iir) }; reply = refl; sent = refl }
+  line-alike v = record { beside = record { same = is-same _ _; marked = emptied-held p (original.writeLine (twin p j) v .original .iir) }; reply = refl; sent = refl; events = refl }
 
   ier-alike : (v : ℕ) → Alike false (writeIer p v) (original.writeIer (twin p j) v)
   unfolding writeIer original.writeIer ierStored original.ierStored
@@ -131,6 +134,7 @@ module _ (p : Port) (j : ℕ) (h : Held p j) where
     beside = record { same = is-same _ _; marked = λ m e. set-active (ierStored v) (p .iir) (some (p .waiting)) ∙ e };
     reply = refl;
     sent = refl;
+    events = refl;
   }
 
   write-alike : (r : Register) (v : ℕ) → Alike false (writeRegister p r v) (original.writeRegister (twin p j) r v)
@@ -138,16 +142,19 @@ module _ (p : Port) (j : ℕ) (h : Held p j) where
   write-alike RBR-THR v = side-by-side (Alike false) (inLoop p) (loop-alike v) (line-alike v)
   write-alike IER v = ier-alike v
   write-alike IIR-FCR v = plainly p j h 0
-  write-alike LCR v = record { beside = record { same = is-same _ _; marked = h }; reply = refl; sent = refl }
-  write-alike MCR v = record { beside = record { same = is-same _ _; marked = h }; reply = refl; sent = refl }
+  write-alike LCR v = record { beside = record { same = is-same _ _; marked = h }; reply = refl; sent = refl; events = refl }
+  write-alike MCR v = record { beside = record { same = is-same _ _; marked = h }; reply = refl; sent = refl; events = refl }
   write-alike LSR v = plainly p j h 0
   write-alike MSR v = plainly p j h 0
-  write-alike SCR v = record { beside = record { same = is-same _ _; marked = h }; reply = refl; sent = refl }
-  write-alike DLL v = record { beside = record { same = is-same _ _; marked = h }; reply = refl; sent = refl }
-  write-alike DLM v = record { beside = record { same = is-same _ _; marked = h }; reply = refl; sent = refl }
+  write-alike SCR v = record { beside = record { same = is-same _ _; marked = h }; reply = refl; sent = refl; events = refl }
+  write-alike DLL v = record { beside = record { same = is-same _ _; marked = h }; reply = refl; sent = refl; events = refl }
+  write-alike DLM v = record { beside = record { same = is-same _ _; marked = h }; reply = refl; sent = refl; events = refl }
   write-alike reserved v = plainly p j h 0
 
 -- ---- Calls
+
+both-said : {v w : ℕ} (e e′ : Events) → v ≡ w → asOriginal e ≡ e′ → replied v (asOriginal e) 0 ≡ replied w (asOriginal e′) 0
+both-said e e′ same told = rw (same, ← told) refl
 
 pub record Kept (iir : Bool) (d : Did) (e : original.Did) : Type 0 where
   pub beside : Beside (d .port) (e .original)
@@ -168,10 +175,10 @@ module _ (p : Port) (j : ℕ) (h : Held p j) where
   unfolding step original.step
   call-kept (read offset) =
       let a = read-alike p j h (addressed (isOpen p) offset) in
-      record { beside = a .beside; common = ap (λ (v : ℕ). replied v 0) (at-2 (isOpen p) offset _ _ (a .reply)) }
+      record { beside = a .beside; common = both-said (readRegister p (addressed (isOpen p) offset) .events) _ (at-2 (isOpen p) offset _ _ (a .reply)) (a .events) }
   call-kept (write offset v) =
       let a = write-alike p j h (addressed (isOpen p) offset) v in
-      record { beside = a .beside; common = rw (a .sent) refl }
+      record { beside = a .beside; common = rw (a .sent, ← a .events) refl }
   call-kept (input bytes) = input-kept bytes
   call-kept room = record { beside = record { same = is-same p j; marked = h }; common = refl }
 

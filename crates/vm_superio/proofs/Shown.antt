@@ -3,7 +3,7 @@
 use mathlib.Core.Path.{refl}
 use mathlib.Core.List.{List, [], _∷_}
 use Prim.Native.Nat.{ℕ}
-use Rattle.serial.specs.Port.{Port, fresh}
+use Rattle.serial.specs.Port.{Port, noEvents, fresh}
 use Rattle.runs.specs.Run.{Op, read, write, input, Answer, replied, sent, took}
 use Rattle.vm_superio.specs.Original as original
 use Rattle.vm_superio.specs.Beside.{restored, Shown, original-strange-iir, original-two-kinds, original-forgotten-data}
@@ -37,45 +37,45 @@ byte = 0x41 ∷ []
 
 -- ---- IIR is read
 
-pub shows-original-strange-iir : Restoring (holding 0x00 0x08 0x08) (read 2) (replied 0xc1 0) (replied 0xc8 0)
+pub shows-original-strange-iir : Restoring (holding 0x00 0x08 0x08) (read 2) (replied 0xc1 noEvents 0) (replied 0xc8 noEvents 0)
 unfolding computing
 shows-original-strange-iir = record { row = original-strange-iir refl; our = refl; their = refl }
 
-pub shows-original-two-kinds : FromFresh (write 1 0x03 ∷ input byte ∷ []) (read 2) (replied 0xc4 0) (replied 0xc6 0)
+pub shows-original-two-kinds : FromFresh (write 1 0x03 ∷ input byte ∷ []) (read 2) (replied 0xc4 noEvents 0) (replied 0xc6 noEvents 0)
 unfolding computing
 shows-original-two-kinds = record { row = original-two-kinds refl refl; our = refl; their = refl }
 
-pub shows-original-forgotten-data : FromFresh (write 1 0x01 ∷ input byte ∷ read 2 ∷ []) (read 2) (replied 0xc4 0) (replied 0xc1 0)
+pub shows-original-forgotten-data : FromFresh (write 1 0x01 ∷ input byte ∷ read 2 ∷ []) (read 2) (replied 0xc4 noEvents 0) (replied 0xc1 noEvents 0)
 unfolding computing
 shows-original-forgotten-data = record { row = original-forgotten-data refl refl; our = refl; their = refl }
 
-pub shows-original-stale-data : FromFresh (write 1 0x01 ∷ input byte ∷ write 1 0x00 ∷ []) (read 2) (replied 0xc1 0) (replied 0xc4 0)
+pub shows-original-stale-data : FromFresh (write 1 0x01 ∷ input byte ∷ write 1 0x00 ∷ []) (read 2) (replied 0xc1 noEvents 0) (replied 0xc4 noEvents 0)
 unfolding computing
 shows-original-stale-data = record { row = original-stale-data refl refl refl; our = refl; their = refl }
 
-pub shows-original-stale-transmitter : FromFresh (write 1 0x02 ∷ write 1 0x00 ∷ []) (read 2) (replied 0xc1 0) (replied 0xc2 0)
+pub shows-original-stale-transmitter : FromFresh (write 1 0x02 ∷ write 1 0x00 ∷ []) (read 2) (replied 0xc1 noEvents 0) (replied 0xc2 noEvents 0)
 unfolding computing
 shows-original-stale-transmitter = record { row = original-stale-transmitter refl refl refl; our = refl; their = refl }
 
-pub shows-original-forgotten-transmitter : FromFresh (write 1 0x03 ∷ input byte ∷ read 2 ∷ read 0 ∷ []) (read 2) (replied 0xc2 0) (replied 0xc1 0)
+pub shows-original-forgotten-transmitter : FromFresh (write 1 0x03 ∷ input byte ∷ read 2 ∷ read 0 ∷ []) (read 2) (replied 0xc2 noEvents 0) (replied 0xc1 noEvents 0)
 unfolding computing
 shows-original-forgotten-transmitter = record { row = original-forgotten-transmitter refl refl refl; our = refl; their = refl }
 
 -- ---- THR is written
 
-pub shows-original-sends-again : FromFresh (write 1 0x03 ∷ input byte ∷ read 2 ∷ []) (write 0 0x42) (sent (0x42 ∷ []) 0) (sent (0x42 ∷ []) 1)
+pub shows-original-sends-again : FromFresh (write 1 0x03 ∷ input byte ∷ read 2 ∷ []) (write 0 0x42) (sent (0x42 ∷ []) noEvents 0) (sent (0x42 ∷ []) noEvents 1)
 unfolding computing
 shows-original-sends-again = record { row = original-sends-again refl refl refl; our = refl; their = refl }
 
-pub shows-original-loop-transmitter : FromFresh (write 1 0x02 ∷ read 2 ∷ write 4 0x18 ∷ []) (write 0 0x42) (sent [] 1) (sent [] 0)
+pub shows-original-loop-transmitter : FromFresh (write 1 0x02 ∷ read 2 ∷ write 4 0x18 ∷ []) (write 0 0x42) (sent [] noEvents 1) (sent [] noEvents 0)
 unfolding computing
 shows-original-loop-transmitter = record { row = original-loop-transmitter refl refl refl; our = refl; their = refl }
 
-pub shows-original-loop-data-again : FromFresh (write 1 0x01 ∷ write 4 0x18 ∷ write 0 0x41 ∷ read 2 ∷ []) (write 0 0x42) (sent [] 0) (sent [] 1)
+pub shows-original-loop-data-again : FromFresh (write 1 0x01 ∷ write 4 0x18 ∷ write 0 0x41 ∷ read 2 ∷ []) (write 0 0x42) (sent [] noEvents 0) (sent [] noEvents 1)
 unfolding computing
 shows-original-loop-data-again = record { row = original-loop-data-again refl refl refl refl; our = refl; their = refl }
 
-pub shows-original-loop-data-quiet : Restoring (holding 0x01 0x18 0x04) (write 0 0x42) (sent [] 1) (sent [] 0)
+pub shows-original-loop-data-quiet : Restoring (holding 0x01 0x18 0x04) (write 0 0x42) (sent [] noEvents 1) (sent [] noEvents 0)
 unfolding computing
 shows-original-loop-data-quiet = record { row = original-loop-data-quiet refl refl refl; our = refl; their = refl }
 
@@ -91,18 +91,18 @@ shows-original-data-quiet = record { row = original-data-quiet refl refl refl re
 
 -- ---- IER is written
 
-pub shows-original-quiet-data : FromFresh (write 1 0x01 ∷ input byte ∷ write 1 0x00 ∷ []) (write 1 0x01) (sent [] 1) (sent [] 0)
+pub shows-original-quiet-data : FromFresh (write 1 0x01 ∷ input byte ∷ write 1 0x00 ∷ []) (write 1 0x01) (sent [] noEvents 1) (sent [] noEvents 0)
 unfolding computing
 shows-original-quiet-data = record { row = original-quiet-data refl refl; our = refl; their = refl }
 
-pub shows-original-enables-data-again : FromFresh (write 1 0x01 ∷ input byte ∷ read 2 ∷ []) (write 1 0x01) (sent [] 0) (sent [] 1)
+pub shows-original-enables-data-again : FromFresh (write 1 0x01 ∷ input byte ∷ read 2 ∷ []) (write 1 0x01) (sent [] noEvents 0) (sent [] noEvents 1)
 unfolding computing
 shows-original-enables-data-again = record { row = original-enables-data-again refl refl; our = refl; their = refl }
 
-pub shows-original-quiet-transmitter : FromFresh (write 1 0x02 ∷ write 1 0x00 ∷ []) (write 1 0x02) (sent [] 1) (sent [] 0)
+pub shows-original-quiet-transmitter : FromFresh (write 1 0x02 ∷ write 1 0x00 ∷ []) (write 1 0x02) (sent [] noEvents 1) (sent [] noEvents 0)
 unfolding computing
 shows-original-quiet-transmitter = record { row = original-quiet-transmitter refl refl; our = refl; their = refl }
 
-pub shows-original-enables-transmitter-again : FromFresh (write 1 0x03 ∷ input byte ∷ read 2 ∷ []) (write 1 0x02) (sent [] 0) (sent [] 1)
+pub shows-original-enables-transmitter-again : FromFresh (write 1 0x03 ∷ input byte ∷ read 2 ∷ []) (write 1 0x02) (sent [] noEvents 0) (sent [] noEvents 1)
 unfolding computing
 shows-original-enables-transmitter-again = record { row = original-enables-transmitter-again refl refl; our = refl; their = refl }

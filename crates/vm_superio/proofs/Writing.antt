@@ -6,12 +6,12 @@ use mathlib.Core.Bool.{Bool, true, false, cond, not, _&&_, true≢false, false�
 use Prim.Native.Nat.{ℕ, _+_}
 use Rattle.common.proofs.Booleans.{both-true, both-are}
 use Rattle.interrupts.specs.Interrupts.{receivedData, transmitterEmpty, ierStored, isEnabled}
-use Rattle.serial.specs.Port.{Port, RBR-THR, IER, inLoop, hasRoom, active, writeLine, writeLoop, writeThr, writeIer}
+use Rattle.serial.specs.Port.{Port, noEvents, RBR-THR, IER, inLoop, hasRoom, active, writeLine, writeLoop, writeThr, writeIer}
 use Rattle.serial.specs.Port as ours
 use Rattle.runs.specs.Run.{sent, raisesOf}
 use Rattle.vm_superio.specs.Original.{didWrite}
 use Rattle.vm_superio.specs.Original as original
-use Rattle.vm_superio.specs.Beside.{enables, waits, marksData, marksTransmitter, dataAgain, dataQuiet, loopTransmitter, Row, writes}
+use Rattle.vm_superio.specs.Beside.{asOriginal, enables, waits, marksData, marksTransmitter, dataAgain, dataQuiet, loopTransmitter, Row, writes}
 use Rattle.vm_superio.specs.Beside.{original-sends-again, original-loop-transmitter, original-loop-data-again}
 use Rattle.vm_superio.specs.Beside.{original-loop-data-quiet}
 use Rattle.vm_superio.specs.Beside.{original-quiet-data, original-enables-data-again, original-quiet-transmitter}
@@ -26,7 +26,7 @@ use Rattle.vm_superio.proofs.Counts.{ours-line, theirs-line, ours-loop,
 
 -- A write agrees.
 abbrev pub WriteAgrees : ours.Out → original.Out → Type 0
-WriteAgrees o e = sent (o .sent) (o .raises) ≡ sent (e .sent) (e .raises)
+WriteAgrees o e = sent (o .sent) (asOriginal (o .events)) (o .raises) ≡ sent (e .sent) (e .events) (e .raises)
 
 all-three : {a b c : Bool} → a ≡ true → b ≡ true → c ≡ false → (a && b && not c) ≡ true
 all-three e f g = rw (e, f, g) refl
@@ -50,7 +50,7 @@ module _ (p : Port) (j : ℕ) (h : Held p j) (v : ℕ) where
     where
       go : (once (loopTransmitter p) ≡ once (e && not m)) ⊎ Off (loopTransmitter p) (e && not m)
           → WriteAgrees (writeLine p v) (original.writeLine (twin p j) v) ⊎ Row p (twin p j) (writes RBR-THR v)
-      go (inl same) = inl (ap (sent (v ∷ [])) (ours-line p j v ∙ same ∙ sym (theirs-line p j v)))
+      go (inl same) = inl (ap (sent (v ∷ []) noEvents) (ours-line p j v ∙ same ∙ sym (theirs-line p j v)))
       go (inr (more x)) =
           let y = three-true e (not t) m (sym (ours-alone e t m) ∙ x) in
           absurd (true≢false (sym (h (y .2) (y .0)) ∙ not-true t (y .1)))
@@ -91,9 +91,9 @@ module _ (p : Port) (j : ℕ) (v : ℕ) where
     where
       go : (t : Bool) → {n : ℕ}
           → n ≡ cond {A = original.Out} t (original.receives (twin p j) (v ∷ [])) (original.becomes (twin p j)) .raises
-          → sent [] n ≡ didWrite (cond {A = original.Out} t (original.receives (twin p j) (v ∷ [])) (original.becomes (twin p j))) .answer
-      go true e = ap (sent []) e
-      go false e = ap (sent []) e
+          → sent [] noEvents n ≡ didWrite (cond {A = original.Out} t (original.receives (twin p j) (v ∷ [])) (original.becomes (twin p j))) .answer
+      go true e = ap (sent [] noEvents) e
+      go false e = ap (sent [] noEvents) e
 
   loop-complete : inLoop p ≡ true → WriteAgrees (writeLoop p v) (original.writeLoop (twin p j) v) ⊎ Row p (twin p j) (writes RBR-THR v)
   loop-complete l = go (both-counted first theirs (loopTransmitter p) false)
@@ -166,7 +166,7 @@ module _ (p : Port) (j : ℕ) (v : ℕ) where
     where
       go : (once (vd && waits p && not ed) + once (vt && not at) ≡ once (waits p && (vd && not md)) + once (vt && not mt)) ⊎ IerOff
           → IerAgrees ⊎ Row p (twin p j) (writes IER v)
-      go (inl same) = inl (ap (sent []) (ours-ier p j v ∙ same ∙ sym (theirs-ier p j v)))
+      go (inl same) = inl (ap (sent [] noEvents) (ours-ier p j v ∙ same ∙ sym (theirs-ier p j v)))
       go (inr (moreData x y)) = inr (original-quiet-data (sym (quiet-data vd (waits p) ed md) ∙ x) (sym (theirs-alone vt at mt) ∙ y))
       go (inr (lessData x y)) = inr (original-enables-data-again (sym (data-again vd (waits p) ed md) ∙ x) (sym (ours-alone vt at mt) ∙ y))
       go (inr (moreTransmitter x y)) = inr (original-quiet-transmitter (sym (ours-alone vt at mt) ∙ x) (sym (data-again vd (waits p) ed md) ∙ y))

@@ -7,7 +7,7 @@ use mathlib.Core.Bool.{Bool, true, false, cond, not, _&&_, _||_}
 use lib.Dec.{eqb}
 use Rattle.common.specs.Lists.{some}
 use Rattle.interrupts.specs.Interrupts.{Kind, receivedData, transmitterEmpty, ierStored, isEnabled}
-use Rattle.serial.specs.Port.{Port, Register, RBR-THR, IER, IIR-FCR, addressed, isOpen, inLoop, hasRoom, active}
+use Rattle.serial.specs.Port.{Port, Events, Register, RBR-THR, IER, IIR-FCR, addressed, isOpen, inLoop, hasRoom, active}
 use Rattle.runs.specs.Run.{Op, read, write, input, room, Answer, replied, sent, took, full, step, run}
 use Rattle.runs.specs.Run as runs
 use Rattle.vm_superio.specs.Original.{Original, isMarked, iirRead}
@@ -27,7 +27,12 @@ pub record Same (p : Port) (q : Original) : Type 0 where
 abbrev pub restored : Port → Original
 restored p = record { settings = p .settings; iir = p .iir; lsr = p .lsr; msr = p .msr; waiting = p .waiting; size = p .size }
 
--- Of an answer: the reply but at offset 2, the bytes sent, taken, "full" and the room. 0 stands for what may differ: IIR's reply, raises.
+-- What happened, as far as the original tells it: that RBR was read, and left no byte.
+abbrev pub asOriginal : Events → Events
+asOriginal e = record { dataRead = e .dataRead; delivered = false; noneLeft = e .noneLeft; looped = false; dropped = false }
+
+-- Of an answer: the reply but at offset 2, these events, the bytes sent, taken, "full" and the room. 0 stands for what may differ: IIR's
+-- reply, raises.
 abbrev pub isIirRead : Op → Bool
 isIirRead (read offset) = eqb offset 2
 isIirRead (write offset value) = false
@@ -35,8 +40,8 @@ isIirRead (input bytes) = false
 isIirRead room = false
 
 abbrev pub common : Bool → Answer → Answer
-common iir (replied v n) = replied (cond iir 0 v) 0
-common iir (sent s n) = sent s 0
+common iir (replied v e n) = replied (cond iir 0 v) (asOriginal e) 0
+common iir (sent s e n) = sent s (asOriginal e) 0
 common iir (took t n) = took t 0
 common iir (full n) = full 0
 common iir (runs.hasRoom r) = runs.hasRoom r
@@ -160,8 +165,16 @@ pub record SameRun (p : Port) (q : Original) (os : List Op) : Type 0 where
 
 -- ---- A call agrees, in a run or alone
 
+-- Our answer with what the original would tell of it.
+abbrev pub heard : Answer → Answer
+heard (replied v e n) = replied v (asOriginal e) n
+heard (sent s e n) = sent s (asOriginal e) n
+heard (took t n) = took t n
+heard (full n) = full n
+heard (runs.hasRoom r) = runs.hasRoom r
+
 abbrev pub Agrees : Port → Original → Op → Type 0
-Agrees p q o = step p o .answer ≡ original.step q o .answer
+Agrees p q o = heard (step p o .answer) ≡ original.step q o .answer
 
 -- The rows are exact at a call: it agrees or is in a row, and not both.
 pub record Exact (p : Port) (q : Original) (o : Op) : Type 0 where
@@ -176,5 +189,5 @@ ExactRun p q (o ∷ os) = Exact p q o × ExactRun (step p o .port) (original.ste
 -- After `before` the call is in a row, and each of the two answers so.
 pub record Shown (p : Port) (q : Original) (before : List Op) (call : Op) (ours theirs : Answer) : Type 0 where
   pub row : RowAt (run p before .port) (original.run q before .original) call
-  pub our : step (run p before .port) call .answer ≡ ours
+  pub our : heard (step (run p before .port) call .answer) ≡ ours
   pub their : original.step (original.run q before .original) call .answer ≡ theirs

@@ -1,8 +1,9 @@
 -- The serial port of vm-superio 0.8.2, frozen: our port was once the same, and where ours changes this stays. They share the names of the
--- registers, what the guest wrote, and the rooms of the line status and of the modem; the interrupts are the original's own.
+-- registers, what the guest wrote, the record of events, and the rooms of the line status and of the modem. The interrupts, and which events
+-- it tells, are the original's own.
 use Prim.Native.Nat.{ℕ, _+_, _-_, min}
 use mathlib.Core.List.{List, [], _∷_, _++_, tail}
-use mathlib.Core.Bool.{Bool, cond, not, _&&_}
+use mathlib.Core.Bool.{Bool, true, false, cond, not, _&&_}
 use lib.ListN.{length, take}
 use lib.Bits.{bitAnd, bitOr}
 use lib.Dec.{ltb, eqb}
@@ -11,7 +12,7 @@ use Rattle.common.specs.Lists.{some, firstOr0}
 use Rattle.line_status.specs.LineStatus.{lsrReady, lsrAfterRead}
 use Rattle.modem.specs.Modem.{isLoop, msrRead}
 use Rattle.serial.specs.Port.{Register, RBR-THR, IER, IIR-FCR, LCR, MCR, LSR, MSR, SCR, DLL, DLM, reserved, addressed, Settings}
-use Rattle.serial.specs.Port.{putIer, putLcr, putMcr, putScr, putDll, putDlm}
+use Rattle.serial.specs.Port.{Events, noEvents, putIer, putLcr, putMcr, putScr, putDll, putDlm}
 use Rattle.runs.specs.Run.{Op, read, write, input, room, Answer, replied, sent, took, full, hasRoom}
 
 -- ---- State
@@ -88,6 +89,7 @@ pub record Out : Type 0 where
   pub original : Original
   pub reply : ℕ
   pub sent : List ℕ
+  pub events : Events
   pub raises : ℕ
 
 abbrev pub withSettings : Original → Settings → Original
@@ -97,7 +99,7 @@ abbrev pub withReceiver : Original → ℕ → ℕ → List ℕ → Original
 withReceiver q iir lsr waiting = record { settings = q .settings; iir = iir; lsr = lsr; msr = q .msr; waiting = waiting; size = q .size }
 
 abbrev pub replies : Original → ℕ → Out
-replies q value = record { original = q; reply = value; sent = []; raises = 0 }
+replies q value = record { original = q; reply = value; sent = []; events = noEvents; raises = 0 }
 
 abbrev pub becomes : Original → Out
 becomes q = replies q 0
@@ -105,17 +107,29 @@ becomes q = replies q 0
 abbrev pub stores : Original → Settings → Out
 stores q s = becomes (withSettings q s)
 
+-- The callbacks of a read: RBR was read (`buffer_read`), and leaves no byte (`in_buffer_empty`). Those of a write, `out_byte` and
+-- `tx_lost_byte`, follow from the byte sent and what the sink made of it, and are not here. Of the loop nobody hears.
+abbrev pub calledBack : Bool → Events
+calledBack waits = record { dataRead = true; delivered = false; noneLeft = not waits; looped = false; dropped = false }
+
 -- RBR: the first byte leaves, and received data is unmarked even if more wait.
 unfoldable pub readRbr : Original → Out
 readRbr q =
     let left = tail (q .waiting) in
-    replies (withReceiver q (unmark (q .iir) receivedData) (lsrAfterRead (some left) (q .lsr)) left) (firstOr0 (q .waiting))
+    record {
+      original = withReceiver q (unmark (q .iir) receivedData) (lsrAfterRead (some left) (q .lsr)) left;
+      reply = firstOr0 (q .waiting);
+      sent = [];
+      events = calledBack (some left);
+      raises = 0;
+    }
 
 -- Bytes come to the receiver: received data is announced.
 unfoldable pub receives : Original → List ℕ → Out
 receives q bytes =
     let a = announce (q .settings .ier) (q .iir) receivedData in
-    record { original = withReceiver q (a .iir) (lsrReady (q .lsr)) (q .waiting ++ bytes); reply = 0; sent = []; raises = a .raises }
+    let after = withReceiver q (a .iir) (lsrReady (q .lsr)) (q .waiting ++ bytes) in
+    record { original = after; reply = 0; sent = []; events = noEvents; raises = a .raises }
 
 -- THR: in the loop the byte comes to the receiver, if there is room, and nothing is said of the transmitter. On the line the byte is sent,
 -- and the empty transmitter is announced.
@@ -125,7 +139,7 @@ writeLoop q value = cond (isRoom q) (receives q (value ∷ [])) (becomes q)
 unfoldable pub writeLine : Original → ℕ → Out
 writeLine q value =
     let a = announce (q .settings .ier) (q .iir) transmitterEmpty in
-    record { original = withReceiver q (a .iir) (q .lsr) (q .waiting); reply = 0; sent = value ∷ []; raises = a .raises }
+    record { original = withReceiver q (a .iir) (q .lsr) (q .waiting); reply = 0; sent = value ∷ []; events = noEvents; raises = a .raises }
 
 abbrev pub writeThr : Original → ℕ → Out
 writeThr q value = cond (inLoop q) (writeLoop q value) (writeLine q value)
@@ -144,7 +158,8 @@ unfoldable pub writeIer : Original → ℕ → Out
 writeIer q value =
     let s = putIer (q .settings) (ierStored value) in
     let a = enabling (s .ier) (q .iir) (some (q .waiting)) in
-    record { original = withReceiver (withSettings q s) (a .iir) (q .lsr) (q .waiting); reply = 0; sent = []; raises = a .raises }
+    let after = withReceiver (withSettings q s) (a .iir) (q .lsr) (q .waiting) in
+    record { original = after; reply = 0; sent = []; events = noEvents; raises = a .raises }
 
 -- IIR: the marks, and the two bits that say the FIFOs are on. Nothing is marked afterwards.
 unfoldable pub iirRead : ℕ → ℕ
@@ -185,10 +200,10 @@ pub record Did : Type 0 where
   pub answer : Answer
 
 abbrev pub didRead : Out → Did
-didRead o = record { original = o .original; answer = replied (o .reply) (o .raises) }
+didRead o = record { original = o .original; answer = replied (o .reply) (o .events) (o .raises) }
 
 abbrev pub didWrite : Out → Did
-didWrite o = record { original = o .original; answer = sent (o .sent) (o .raises) }
+didWrite o = record { original = o .original; answer = sent (o .sent) (o .events) (o .raises) }
 
 -- Bytes from the line: none in the loop; else as many as there is room for, or the answer "full".
 abbrev pub takes : Original → List ℕ → Did

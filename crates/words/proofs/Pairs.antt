@@ -1,7 +1,7 @@
 -- Laws of bytes that are spelled with two digits each, for a loop that goes along them.
 use Prim.Native.Nat.{ℕ, suc, _+_, _-_, _*_, _/_, _%_, _≤_, _<_}
-use mathlib.Core.Path.{_≡_, refl, sym, ap, _∙_}
-use mathlib.Core.Bool.{Bool, true, false, cond, _&&_}
+use mathlib.Core.Path.{_≡_, refl, sym, _∙_}
+use mathlib.Core.Bool.{Bool, true, false, _&&_}
 use mathlib.Core.List.{List, [], _∷_, _++_, append-assoc, append-nil}
 use native.Mathlib.Numerals.{add-one}
 use native.Mathlib.Omega.{arith}
@@ -10,7 +10,6 @@ use lib.Dec.{ltb, leb}
 use lib.ListN.{length, getD, set, take, drop, length-drop, length-set, drop-of-length-le}
 use lib.Seq.{drop-cons, take-suc-set, length-take-le}
 use Rattle.words.specs.Hex.{valueOf, byteOf, bytesOf, arePairs, areBytes, countOf, Gives}
-use Rattle.words.specs.declared.hex.Bytes.{Bytes}
 use Rattle.words.specs.declared.hex.Bytes.the-variants.{Are, Bad}
 
 -- ---- Digits that make no bytes

@@ -3,6 +3,7 @@ use Prim.Native.Nat.{ℕ, zero, suc, _+_, _-_, _*_, _/_, _%_, _^_}
 use mathlib.Core.Bool.{Bool, cond, _&&_}
 use mathlib.Core.List.{List, [], _∷_, _++_}
 use lib.Dec.{ltb, leb}
+use Rattle.words.specs.Text.{text}
 use Rattle.words.specs.declared.decimal.Number.{Number}
 use Rattle.words.specs.declared.decimal.Number.the-variants.{Is, Bad}
 
@@ -36,3 +37,7 @@ decimals (suc most) n = cond (ltb n 10) ((48 + n) ∷ []) (decimals most (n / 10
 
 unfoldable pub decimalOf : ℕ → List ℕ
 decimalOf n = decimals 20 n
+
+-- One of several in a line, behind a space.
+abbrev pub nextDecimal : ℕ → List ℕ
+nextDecimal n = text " " ++ decimalOf n

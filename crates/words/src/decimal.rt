@@ -4,7 +4,7 @@ use crate::put::put;
 ghost use Prim.Native.Nat.{_+_, _≤_};
 ghost use mathlib.Core.Path.{_≡_};
 ghost use lib.ListN.{length, drop};
-ghost use Rattle.words.specs.Decimal.{numberOf, longerBy, decimalOf};
+ghost use Rattle.words.specs.Decimal.{numberOf, longerBy, decimalOf, nextDecimal};
 ghost use Rattle.words.specs.Put.{Puts};
 
 // What a word says, as a number of 64 bits.
@@ -69,10 +69,28 @@ pub fn put_decimal(out: &mut Block, at: usize, n: u32) -> usize
     ensures { λ r. ⌜ Puts (now (out .entry)) at (decimalOf n) (now (out .exit)) r ⌝ }
     ensures { λ r. ⌜ r ≤ at + 20 ⌝ }
 {
+    put_long(out, at, n as u64)
+}
+
+fn put_long(out: &mut Block, at: usize, n: u64) -> usize
+    requires { ⌜ at + 20 ≤ 65536 ⌝ }
+    ensures { λ r. ⌜ Puts (now (out .entry)) at (decimalOf n) (now (out .exit)) r ⌝ }
+    ensures { λ r. ⌜ r ≤ at + 20 ⌝ }
+{
     let mut digits = [0u8; 20];
-    let count = io::decimal(n as u64, &mut digits);
+    let count = io::decimal(n, &mut digits);
     twenty(&digits);
     put(out, at, &digits[..count])
+}
+
+// A space, and the digits of a number of 64 bits.
+pub fn put_next(out: &mut Block, at: usize, n: u64) -> usize
+    requires { ⌜ at + 21 ≤ 65536 ⌝ }
+    ensures { λ r. ⌜ Puts (now (out .entry)) at (nextDecimal n) (now (out .exit)) r ⌝ }
+    ensures { λ r. ⌜ r ≤ at + 21 ⌝ }
+{
+    let a = put(out, at, b" ");
+    put_long(out, a, n)
 }
 
 // Tells a proof that an array is as long as its type says, and compiles to nothing.

@@ -1,7 +1,6 @@
 // What a line looks like.
 use crate::hex::value;
 ghost use mathlib.Core.Path.{_≡_};
-ghost use lib.ListN.{length};
 ghost use Rattle.words.specs.Pattern.{fitsOf, beginsLike, standsFor};
 
 // Whether `line` looks like `pattern`, as `w OO VV`, in which a capital letter stands for a

@@ -3,13 +3,14 @@
 //!
 //!     cargo run --example console
 //!
-//! Type a line and the guest answers it. `time` asks it for the clock, `reset` ends it.
+//! Type a line and the guest answers it. `time` asks it for the clock, `reset` ends it. If bytes were lost on the way
+//! to the terminal, the console says at its end how many.
 
 use std::cell::Cell;
 use std::io::{self, BufRead, Stdout};
 use std::rc::Rc;
 
-use serialpost::{rtc_pl031, serial, I8042Device, Rtc, Serial, Trigger};
+use serialpost::{rtc_pl031, serial, Counters, I8042Device, Rtc, Serial, Trigger};
 
 // ---- The monitor
 
@@ -27,7 +28,7 @@ impl Trigger for Wire {
 }
 
 struct Machine {
-    port: Serial<Wire, serial::NoEvents, Stdout>,
+    port: Serial<Wire, Counters, Stdout>,
     clock: Rtc<rtc_pl031::NoEvents>,
     keyboard: I8042Device<Wire>,
 }
@@ -66,7 +67,7 @@ impl Machine {
 fn main() -> io::Result<()> {
     let (interrupt, reset) = (Wire::default(), Wire::default());
     let mut machine = Machine {
-        port: Serial::new(interrupt.clone(), io::stdout()),
+        port: Serial::with_events(interrupt.clone(), Counters::new(), io::stdout()),
         clock: Rtc::new(),
         keyboard: I8042Device::new(reset.clone()),
     };
@@ -88,6 +89,11 @@ fn main() -> io::Result<()> {
         if interrupt.0.take() {
             guest.interrupt(&mut machine);
         }
+    }
+    let counters = machine.port.events();
+    if counters.lost() > 0 {
+        let (lost, sent) = (counters.lost(), counters.sent());
+        eprintln!("console: {lost} of {sent} bytes were lost");
     }
     Ok(())
 }

@@ -1,8 +1,8 @@
 //! A 16550 serial port, an Arm PL031 clock and the reset corner of an i8042, for machine monitors.
 //!
 //! What the devices answer is computed by proved functions, which this crate links and calls in place. It adds
-//! what they leave to a host: it sends the bytes, raises the interrupts and reads the time. Its API is that of
-//! vm-superio 0.8, but for the parts that its README lists as missing.
+//! what they leave to a host: it sends the bytes, raises the interrupts, reads the time and tells the monitor what
+//! happened. Its API is that of vm-superio 0.8.
 //!
 //! ```
 //! use serialpost::{Serial, Trigger};
@@ -31,6 +31,7 @@
 #![deny(missing_docs)]
 #![deny(unsafe_code)]
 
+mod counters;
 mod form;
 pub mod i8042;
 pub mod rtc_pl031;
@@ -39,6 +40,7 @@ pub mod serial;
 #[allow(unsafe_code)]
 mod proved;
 
+pub use counters::Counters;
 pub use form::FormError;
 pub use i8042::I8042Device;
 pub use rtc_pl031::{Rtc, RtcState};

@@ -7,6 +7,9 @@ pub(crate) type Regs = [u8; 16];
 type Pos = [u32; 4];
 type Ring = [u8; 1024];
 pub(crate) type Words = [u32; 8];
+/// Data reads, bytes sent, bytes lost, reads that left none; and of a clock invalid reads and invalid writes.
+pub(crate) type SerialCounters = [u64; 4];
+pub(crate) type ClockCounters = [u64; 2];
 
 // SAFETY: the declarations say what the Rattle sources say (`hosts/agree` compares them), and by its proof each
 // function is total: whatever the arguments, it touches only what it is lent, returns, and needs nothing before
@@ -86,9 +89,26 @@ unsafe extern "C" {
     fn serialpost_raw_clock_encode(saved: &Words, form: *mut u8, length: usize) -> u32;
     fn serialpost_raw_clock_decode(form: *const u8, length: usize, saved: &mut Words) -> u32;
 
+    pub(crate) safe fn serialpost_raw_serial_counters_init(counters: &mut SerialCounters);
+    pub(crate) safe fn serialpost_raw_serial_count(counters: &mut SerialCounters, answer: u32);
+    pub(crate) safe fn serialpost_raw_serial_lost(counters: &mut SerialCounters);
+    pub(crate) safe fn serialpost_raw_clock_counters_init(counters: &mut ClockCounters);
+    pub(crate) safe fn serialpost_raw_clock_count_read(counters: &mut ClockCounters, answer: u32);
+    pub(crate) safe fn serialpost_raw_clock_count_write(counters: &mut ClockCounters, answer: u32);
+
     pub(crate) safe fn serialpost_raw_i8042_read(offset: u8) -> u8;
     pub(crate) safe fn serialpost_raw_i8042_write(offset: u8, value: u8) -> bool;
 }
+
+/// The bits of the word that a call answers, as include/serialpost_raw.h has them: a number, what there is to say beside
+/// it, and one raise: from there on stands how many there are.
+const WORD_NUMBER: u32 = 0xffff;
+pub(crate) const WORD_REFUSED: u32 = 0x1_0000;
+pub(crate) const WORD_SENDS: u32 = 0x2_0000;
+const WORD_REACHABLE: u32 = 0x4_0000;
+pub(crate) const WORD_DATA_READ: u32 = 0x8_0000;
+pub(crate) const WORD_NONE_LEFT: u32 = 0x20_0000;
+const WORD_RAISE: u32 = 0x1000_0000;
 
 /// The word that a call answers, taken apart. There is one layout for all calls.
 #[derive(Clone, Copy)]
@@ -98,7 +118,7 @@ impl Answer {
     /// How many bytes were taken, saved, or make up a form.
     #[inline]
     pub(crate) fn number(self) -> usize {
-        (self.0 & 0xffff) as usize
+        (self.0 & WORD_NUMBER) as usize
     }
 
     #[inline]
@@ -106,26 +126,44 @@ impl Answer {
         self.0 as u8
     }
 
-    /// Of an input: the port is full.
+    #[inline]
+    fn has(self, bit: u32) -> bool {
+        self.0 & bit != 0
+    }
+
+    /// Of an input: the port is full. Of a restore: too many bytes. Of an access of the clock: no register can be read,
+    /// or written, there. Of a form: there is none.
     #[inline]
     pub(crate) fn refused(self) -> bool {
-        self.0 & 0x1_0000 != 0
+        self.has(WORD_REFUSED)
     }
 
     #[inline]
     pub(crate) fn sent(self) -> Option<u8> {
-        (self.0 & 0x2_0000 != 0).then_some(self.0 as u8)
+        self.has(WORD_SENDS).then_some(self.0 as u8)
     }
 
     /// Whether a run from a fresh device could have come to what is restored.
     pub(crate) fn reachable(self) -> bool {
-        self.0 & 0x4_0000 != 0
+        self.has(WORD_REACHABLE)
+    }
+
+    /// Whether RBR was read.
+    #[inline]
+    pub(crate) fn data_read(self) -> bool {
+        self.has(WORD_DATA_READ)
+    }
+
+    /// Whether RBR was read and no byte waits after it.
+    #[inline]
+    pub(crate) fn none_left(self) -> bool {
+        self.has(WORD_NONE_LEFT)
     }
 
     /// How often to raise the interrupt.
     #[inline]
     pub(crate) fn raises(self) -> u32 {
-        self.0 >> 24
+        self.0 / WORD_RAISE
     }
 
     /// The number, or why there is no form.
@@ -325,13 +363,31 @@ mod tests {
     use super::*;
 
     /// The interface that this crate is written for.
-    const VERSION: u32 = 2;
+    const VERSION: u32 = 3;
 
     #[test]
     fn the_library_has_the_interface_that_is_declared_here() {
         assert_eq!(serialpost_raw_version(), VERSION);
         let header = include_str!("../../../include/serialpost.h");
         assert!(header.contains(&format!("#define SERIALPOST_VERSION {VERSION}\n")));
+    }
+
+    #[test]
+    fn each_bit_moves_its_counter() {
+        for bit in (0..32).map(|n| 1 << n) {
+            let one = |told| u64::from(bit == told);
+            let (mut port, mut clock) = ([7; 4], [7; 2]);
+            serialpost_raw_serial_counters_init(&mut port);
+            serialpost_raw_clock_counters_init(&mut clock);
+            serialpost_raw_serial_count(&mut port, bit);
+            serialpost_raw_serial_lost(&mut port);
+            let (reads, sent, empty) = (one(WORD_DATA_READ), one(WORD_SENDS), one(WORD_NONE_LEFT));
+            assert_eq!(port, [reads, sent, 1, empty]);
+            serialpost_raw_clock_count_read(&mut clock, bit);
+            assert_eq!(clock, [one(WORD_REFUSED), 0]);
+            serialpost_raw_clock_count_write(&mut clock, bit);
+            assert_eq!(clock, [one(WORD_REFUSED); 2]);
+        }
     }
 
     #[test]

@@ -1,23 +1,63 @@
 //! An Arm PL031 real time clock.
 
+use std::sync::Arc;
 use std::time::{SystemTime, UNIX_EPOCH};
 
 use crate::proved::{self, Clock, Words};
 use crate::FormError;
 
-/// Stands where vm-superio has its callbacks for events. There are none yet, so [`NoEvents`] alone has it.
-pub trait RtcEvents: private::Sealed {}
+/// What a clock tells its monitor of the guest's mistakes: for metrics or for a log. The clock's answers decide which is
+/// called. [`Counters`](crate::Counters) is a type that counts them.
+///
+/// ```
+/// use std::cell::Cell;
+///
+/// use serialpost::rtc_pl031::{Rtc, RtcEvents};
+///
+/// #[derive(Default)]
+/// struct Mistakes(Cell<u32>);
+///
+/// impl RtcEvents for Mistakes {
+///     fn invalid_read(&self) {
+///         self.0.set(self.0.get() + 1);
+///     }
+///     fn invalid_write(&self) {
+///         self.0.set(self.0.get() + 1);
+///     }
+/// }
+///
+/// let mut clock = Rtc::with_events(Mistakes::default());
+/// clock.write(0x000, &[0; 4]); // the data register cannot be written
+/// clock.read(0x020, &mut [0; 4]); // here is no register
+/// assert_eq!(clock.events().0.get(), 2);
+/// ```
+pub trait RtcEvents {
+    /// The guest read where no register can be read.
+    fn invalid_read(&self);
 
-mod private {
-    pub trait Sealed {}
+    /// The guest wrote where no register can be written.
+    fn invalid_write(&self);
 }
 
-/// No events.
+/// No events: none is told.
 #[derive(Debug, Clone, Copy)]
 pub struct NoEvents;
 
-impl private::Sealed for NoEvents {}
-impl RtcEvents for NoEvents {}
+impl RtcEvents for NoEvents {
+    fn invalid_read(&self) {}
+    fn invalid_write(&self) {}
+}
+
+/// Events that are shared: the clock has one handle, the monitor keeps another.
+impl<EV: RtcEvents> RtcEvents for Arc<EV> {
+    fn invalid_read(&self) {
+        EV::invalid_read(self);
+    }
+
+    fn invalid_write(&self) {
+        EV::invalid_write(self);
+    }
+}
 
 /// A clock written down. Every one can be brought back by [`Rtc::from_state`].
 ///
@@ -135,7 +175,7 @@ impl Rtc<NoEvents> {
 }
 
 impl<EV: RtcEvents> Rtc<EV> {
-    /// As [`new`](Rtc::new), where the events are named. They are [`NoEvents`] yet.
+    /// A fresh clock that tells `rtc_events` of invalid accesses.
     pub fn with_events(rtc_events: EV) -> Self {
         Rtc {
             clock: Clock::fresh(),
@@ -168,17 +208,19 @@ impl<EV: RtcEvents> Rtc<EV> {
         RtcState::new(self.clock.saved())
     }
 
-    /// The events that were named.
+    /// Who is told of invalid accesses.
     pub fn events(&self) -> &EV {
         &self.events
     }
 
-    /// The guest reads the register at `offset`. Where there is none to be read, `data` stays as it is.
+    /// The guest reads the register at `offset`. Where there is none to be read, `data` stays as it is and the events
+    /// are told.
     pub fn read(&mut self, offset: u16, data: &mut [u8; 4]) {
         self.read_at(host_seconds(), offset, data);
     }
 
-    /// The guest writes `data` to the register at `offset`. Where there is none to be written, nothing happens.
+    /// The guest writes `data` to the register at `offset`. Where there is none to be written, nothing happens but that
+    /// the events are told.
     pub fn write(&mut self, offset: u16, data: &[u8; 4]) {
         self.write_at(host_seconds(), offset, data);
     }
@@ -187,7 +229,11 @@ impl<EV: RtcEvents> Rtc<EV> {
     ///
     /// vm-superio does not have this. It is for a monitor that keeps the time itself.
     pub fn read_at(&mut self, seconds: u64, offset: u16, data: &mut [u8; 4]) -> bool {
-        !self.clock.read(offset, seconds, data).refused()
+        let invalid = self.clock.read(offset, seconds, data).refused();
+        if invalid {
+            self.events.invalid_read();
+        }
+        !invalid
     }
 
     /// As [`write`](Self::write), with `seconds` for the host's time. Answers whether there was a register to
@@ -195,6 +241,10 @@ impl<EV: RtcEvents> Rtc<EV> {
     ///
     /// vm-superio does not have this. It is for a monitor that keeps the time itself.
     pub fn write_at(&mut self, seconds: u64, offset: u16, data: &[u8; 4]) -> bool {
-        !self.clock.write(offset, seconds, data).refused()
+        let invalid = self.clock.write(offset, seconds, data).refused();
+        if invalid {
+            self.events.invalid_write();
+        }
+        !invalid
     }
 }

@@ -3,23 +3,96 @@
 use std::error;
 use std::fmt;
 use std::io::{self, Write};
+use std::sync::Arc;
 
 use crate::proved::{self, Port, Regs};
 use crate::{FormError, Trigger};
 
-/// Stands where vm-superio has its callbacks for events. There are none yet, so [`NoEvents`] alone has it.
-pub trait SerialEvents: private::Sealed {}
+/// What a port tells its monitor while the guest uses it: for metrics, for a log, or to offer input when there is room.
+///
+/// The port's answers decide which are called. Each is called during the guest's access, at the place that is named;
+/// the port has done its part by then. [`Counters`](crate::Counters) is a type that counts them.
+///
+/// ```
+/// use std::sync::atomic::{AtomicU64, Ordering};
+/// use std::sync::Arc;
+///
+/// use serialpost::serial::SerialEvents;
+/// # use serialpost::{Serial, Trigger};
+/// # struct Line;
+/// # impl Trigger for Line {
+/// #     type E = ();
+/// #     fn trigger(&self) -> Result<(), ()> {
+/// #         Ok(())
+/// #     }
+/// # }
+///
+/// #[derive(Default)]
+/// struct Metrics {
+///     lost: AtomicU64,
+/// }
+///
+/// impl SerialEvents for Metrics {
+///     fn buffer_read(&self) {}
+///     fn out_byte(&self) {}
+///     fn tx_lost_byte(&self) {
+///         self.lost.fetch_add(1, Ordering::Relaxed);
+///     }
+///     fn in_buffer_empty(&self) {}
+/// }
+///
+/// let metrics = Arc::new(Metrics::default());
+/// let mut room_for_one = [0; 1];
+/// let mut port = Serial::with_events(Line, metrics.clone(), &mut room_for_one[..]);
+/// port.write(0, b'a').unwrap();
+/// port.write(0, b'b').unwrap_err();
+/// assert_eq!(metrics.lost.load(Ordering::Relaxed), 1);
+/// ```
+pub trait SerialEvents {
+    /// The guest read RBR, also where no byte waited for it. Where both are due this comes behind
+    /// [`in_buffer_empty`](Self::in_buffer_empty).
+    fn buffer_read(&self);
 
-mod private {
-    pub trait Sealed {}
+    /// The writer took a byte that the guest sent: it is written and flushed. The interrupt is raised after this.
+    fn out_byte(&self);
+
+    /// The writer did not take a byte that the guest sent: to write it or to flush it failed. The interrupt is raised
+    /// after this.
+    fn tx_lost_byte(&self);
+
+    /// The guest read RBR, and no byte waits now: a read of an empty port too.
+    fn in_buffer_empty(&self);
 }
 
-/// No events.
+/// No events: none is told.
 #[derive(Debug, Clone, Copy)]
 pub struct NoEvents;
 
-impl private::Sealed for NoEvents {}
-impl SerialEvents for NoEvents {}
+impl SerialEvents for NoEvents {
+    fn buffer_read(&self) {}
+    fn out_byte(&self) {}
+    fn tx_lost_byte(&self) {}
+    fn in_buffer_empty(&self) {}
+}
+
+/// Events that are shared: the port has one handle, the monitor keeps another.
+impl<EV: SerialEvents> SerialEvents for Arc<EV> {
+    fn buffer_read(&self) {
+        EV::buffer_read(self);
+    }
+
+    fn out_byte(&self) {
+        EV::out_byte(self);
+    }
+
+    fn tx_lost_byte(&self) {
+        EV::tx_lost_byte(self);
+    }
+
+    fn in_buffer_empty(&self) {
+        EV::in_buffer_empty(self);
+    }
+}
 
 /// A port written down: its nine registers and the bytes that wait. Every one but those with more than 64 bytes can
 /// be brought back by [`Serial::from_state`].
@@ -152,7 +225,8 @@ impl<E: fmt::Display> fmt::Display for Error<E> {
 
 impl<E: error::Error> error::Error for Error<E> {}
 
-/// A serial port. It raises its interrupt by a [`Trigger`] and sends the guest's bytes to a writer.
+/// A serial port. It raises its interrupt by a [`Trigger`], sends the guest's bytes to a writer and tells what happens
+/// to its [`SerialEvents`].
 ///
 /// Whatever fails on the host's side, the port goes on as if it had not: a guest cannot be made to wait.
 #[derive(Debug)]
@@ -171,12 +245,13 @@ impl<T: Trigger, W: Write> Serial<T, NoEvents, W> {
 }
 
 impl<T: Trigger, EV: SerialEvents, W: Write> Serial<T, EV, W> {
-    /// As [`new`](Serial::new), where the events are named. They are [`NoEvents`] yet.
+    /// A fresh port that tells `serial_evts` what happens.
     pub fn with_events(trigger: T, serial_evts: EV, out: W) -> Self {
         Self::of(Port::fresh(), trigger, serial_evts, out)
     }
 
-    /// The port that was written down as `state`, on a new line and a new writer.
+    /// The port that was written down as `state`, on a new line and a new writer. To bring it back tells `serial_evts`
+    /// nothing.
     ///
     /// The interrupt is raised once for each kind that is enabled and pending: the new line may never have seen it.
     /// Where that fails there is no port and no further raise.
@@ -253,29 +328,37 @@ impl<T: Trigger, EV: SerialEvents, W: Write> Serial<T, EV, W> {
         &self.interrupt_evt
     }
 
-    /// The events that were named.
+    /// Who is told what happens.
     pub fn events(&self) -> &EV {
         &self.events
     }
 
     /// The guest writes `value` at `offset`.
     ///
-    /// A byte that the guest sends is written and flushed first. Then the interrupt is raised where it is due,
-    /// even if the byte could not be sent. Where both fail, the interrupt's error is returned.
+    /// A byte that the guest sends is written and flushed first, and the events are told whether that went well. Then
+    /// the interrupt is raised where it is due, even if the byte could not be sent. Where both fail, the interrupt's
+    /// error is returned. A byte in loopback is not sent, and the events are not told of it.
     pub fn write(&mut self, offset: u8, value: u8) -> Result<(), Error<T::E>> {
         let answer = self.port.write(offset, value);
-        let delivered = match answer.sent() {
+        let sent = match answer.sent() {
             Some(byte) => self.send(byte),
             None => Ok(()),
         };
         self.raise(answer.raises())?;
-        delivered.map_err(Error::IOError)
+        sent.map_err(Error::IOError)
     }
 
-    /// The guest reads at `offset`.
+    /// The guest reads at `offset`. Where that is RBR the events are told.
     pub fn read(&mut self, offset: u8) -> u8 {
         // No read raises the interrupt.
-        self.port.read(offset).reply()
+        let answer = self.port.read(offset);
+        if answer.none_left() {
+            self.events.in_buffer_empty();
+        }
+        if answer.data_read() {
+            self.events.buffer_read();
+        }
+        answer.reply()
     }
 
     /// How many bytes [`enqueue_raw_bytes`](Self::enqueue_raw_bytes) could take now.
@@ -337,8 +420,13 @@ impl<T: Trigger, EV: SerialEvents, W: Write> Serial<T, EV, W> {
     }
 
     fn send(&mut self, byte: u8) -> io::Result<()> {
-        self.out.write_all(&[byte])?;
-        self.out.flush()
+        let written = self.out.write_all(&[byte]);
+        let sent = written.and_then(|()| self.out.flush());
+        match sent {
+            Ok(()) => self.events.out_byte(),
+            Err(_) => self.events.tx_lost_byte(),
+        }
+        sent
     }
 
     /// Raises the interrupt so many times, also where it failed before: each stands for a kind of its own. The first

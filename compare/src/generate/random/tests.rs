@@ -26,9 +26,19 @@ impl Met {
         let mut driver = Driver::new(Account::Original);
         let mut met = Met(HashMap::new());
         let mut into = "";
+        let mut sent = false;
+        let mut counts = 0;
         for line in asking_lines(text) {
             let clock = driver.clock();
             met.before(&driver, line);
+            if line == b"lost" {
+                met.note(if sent {
+                    "lost as sent"
+                } else {
+                    "lost at another time"
+                });
+            }
+            let counted = driver.counters();
             let answer = String::from_utf8(driver.answer(line)).unwrap();
             let answer = answer.trim_end();
             match (parse(line), clock) {
@@ -42,6 +52,15 @@ impl Met {
                     met.note(&format!("shows its host's time: {}", answer == hosts));
                 }
                 _ => {}
+            }
+            sent = answer.starts_with("w ") && !answer.starts_with("w --");
+            if answer.starts_with("counters ") {
+                met.note(&format!("counters after {counts}"));
+                counts = 0;
+            }
+            counts += usize::from(driver.counters() != counted);
+            if is_start(line) {
+                counts = 0;
             }
             into = ["", ", into a fresh one"][usize::from(is_start(line))];
         }
@@ -154,14 +173,44 @@ fn states_of_every_kind_are_brought_back() {
 }
 
 #[test]
+fn each_event_is_asked_for_alone_and_bytes_are_lost() {
+    let met = Met::on(&sample(&[Device::Serial], false, 1));
+    for name in ["lost as sent", "lost at another time"] {
+        met.holds(200, name);
+    }
+    met.holds(500, "counters after 1");
+    let met = Met::on(&sample(&[Device::Clock], false, 1));
+    met.holds(500, "counters after 1");
+    met.holds(50, "lost");
+    let met = Met::on(&sample(&[Device::I8042], false, 1));
+    for name in ["counters", "lost"] {
+        met.holds(50, name);
+    }
+}
+
+/// Lines that begin so are in a list, but not in one with these options.
+fn are_left_out(words: [&str; 2], options: &Options) {
+    let begins = |line: &[u8]| words.iter().any(|word| line.starts_with(word.as_bytes()));
+    let are_in = |options: &Options| asking_lines(&list(options, 20_000, 1)).any(begins);
+    assert!(are_in(&Options::default()) && !are_in(options));
+}
+
+#[test]
+fn a_list_without_counters_has_none_and_loses_nothing() {
+    let options = Options {
+        counters: false,
+        ..Options::default()
+    };
+    are_left_out(["counters", "lost"], &options);
+}
+
+#[test]
 fn a_list_without_saved_states_has_none() {
     let options = Options {
         saves: false,
         ..Options::default()
     };
-    let text = list(&options, 20_000, 1);
-    let about_states = |line: &[u8]| line.starts_with(b"save") || line.starts_with(b"restore");
-    assert!(!asking_lines(&text).any(about_states));
+    are_left_out(["save", "restore"], &options);
 }
 
 #[test]

@@ -1,15 +1,11 @@
 use mathlib.Core.Path.{ap}
+use mathlib.Core.Bool.{false≢true}
 use native.Mathlib.Omega.{arith}
+use Rattle.exchange.proofs.Filling.{filled, closed}
 use borrow.Author.Needs.{needs}
 use Rattle.exchange.specs.Came.{countOf}
 use Rattle.exchange.proofs.fill.Statement.{statement}
 use Rattle.exchange.proofs.fill.Tie as tie
-use Rattle.exchange.proofs.fill.Reads as reads
-use Rattle.exchange.proofs.fill.Lts as lts
-use Rattle.pieces.proofs.came.Reads as came-reads
-use Rattle.pieces.proofs.close.Reads as close-reads
-use Rattle.pieces.proofs.settle.Reads as settle-reads
-use Rattle.exchange.proofs.read_after.Reads as read-after-reads
 
 settle-requires : tie.Need-settle-requires
 settle-requires c κs = search needs
@@ -34,13 +30,21 @@ enum-told-2 : tie.Need-enum-told-2
 enum-told-2 c = search needs
 
 returns : tie.Need-returns
-returns c = search needs
+unfolding countOf
+returns c =
+    let s = c .before .before .before .before .before .before .settle .ensures .1 .1 in
+    let a = c .before .before .before .before .read-after .ensures in
+    let e = ap countOf (c .before .before .count .given .1) in
+    (search needs, λ _. filled _ s (a .1) (omega arith) (omega arith) (c .came .ensures .1))
 
 returns-2 : tie.Need-returns-2
-returns-2 c = search needs
+returns-2 c =
+    let s = c .before .before .before .before .before .before .settle .ensures .1 .1 in
+    let a = c .before .before .before .before .read-after .ensures in
+    (search needs, λ _. closed s (a .1) (omega arith) (c .close .ensures .1))
 
 returns-3 : tie.Need-returns-3
-returns-3 c = search needs
+returns-3 c = (search needs, λ f. absurd (false≢true f))
 
 pub fill-spec : {M : Type 1} → statement M
 fill-spec =

@@ -23,7 +23,7 @@ put-raises-requires : tie.Need-put-raises-requires
 put-raises-requires c κs = search needs
 
 returns : tie.Need-returns
-returns c = (reads _ (c .before .before .before .before .before .before .before .read .ensures) (c .before .before .before .before .put .ensures) (c .before .before .put-byte .ensures .0) (c .put-raises .ensures .0), search needs)
+returns c = (reads _ (c .before .before .before .before .before .before .before .read .ensures) (c .before .before .before .before .put .ensures) (c .before .before .put-byte .ensures .0) (c .put-raises .ensures .0), (search needs, c .before .before .before .before .before .before .before .read .ensures .answer))
 
 pub read-spec : {M : Type 1} → statement M
 read-spec =

@@ -20,7 +20,7 @@ put-raises-requires : tie.Need-put-raises-requires
 put-raises-requires c κs = search needs
 
 returns : tie.Need-returns
-returns c = (writes _ _ (search needs) (c .before .before .before .before .before .before .before .write .ensures) (c .before .before .before .before .put .ensures) (c .before .before .put-sent .ensures .0) (c .put-raises .ensures .0), search needs)
+returns c = (writes _ _ (search needs) (c .before .before .before .before .before .before .before .write .ensures) (c .before .before .before .before .put .ensures) (c .before .before .put-sent .ensures .0) (c .put-raises .ensures .0), (search needs, c .before .before .before .before .before .before .before .write .ensures .answer))
 
 pub write-spec : {M : Type 1} → statement M
 write-spec =

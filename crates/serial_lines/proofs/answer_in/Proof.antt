@@ -1,5 +1,7 @@
 -- By what the line asks for.
-use Rattle.serial_lines.proofs.Answering.{by-line}
+use mathlib.Core.Path.{refl}
+use Rattle.serial_lines.proofs.Answering.{by-line, word-by-line, none-by-kept}
+use Rattle.serial_lines.specs.Answers.{heldOf}
 use borrow.Author.Needs.{needs}
 use Rattle.serial_lines.proofs.answer_in.Statement.{statement}
 use Rattle.serial_lines.proofs.answer_in.Tie as tie
@@ -26,13 +28,15 @@ answer-requires : tie.Need-answer-requires
 answer-requires c κs = search needs
 
 returns : tie.Need-returns
-returns c = by-line _ _ (c .before .before .before .before .before .before .before .before .before .before .parse .ensures) (c .before .before .before .before .before .before .before .before .enum-told .given .1) (c .save .ensures)
+returns c = (by-line _ _ (c .before .before .before .before .before .before .before .before .before .before .parse .ensures) (c .before .before .before .before .before .before .before .before .enum-told .given .1) (c .save .ensures), word-by-line _ _ (c .before .before .before .before .before .before .before .before .before .before .parse .ensures) (c .before .before .before .before .before .before .before .before .enum-told .given .1) refl)
 
 returns-2 : tie.Need-returns-2
-returns-2 c = by-line _ _ (c .before .before .before .before .before .before .before .before .before .before .parse .ensures) (c .before .before .before .before .before .before .before .before .enum-told2 .given .1) (c .restore-kept .ensures)
+returns-2 c =
+    let a = c .before .before .before .before .before .before .before .before .before .before .before .before .args in
+    (by-line _ _ (c .before .before .before .before .before .before .before .before .before .before .parse .ensures) (c .before .before .before .before .before .before .before .before .enum-told2 .given .1) (c .restore-kept .ensures), word-by-line _ _ (c .before .before .before .before .before .before .before .before .before .before .parse .ensures) (c .before .before .before .before .before .before .before .before .enum-told2 .given .1) (none-by-kept (heldOf (a .regs .now) (a .pos .now) (a .ring .now) (a .saved .now) (a .waiting .now) (a .count .now))))
 
 returns-3 : tie.Need-returns-3
-returns-3 c = by-line _ _ (c .before .before .before .before .before .before .before .before .parse .ensures) (c .before .before .before .before .before .before .asked .given .1) (c .answer .ensures _ _ _)
+returns-3 c = (by-line _ _ (c .before .before .before .before .before .before .before .before .parse .ensures) (c .before .before .before .before .before .before .asked .given .1) (c .answer .ensures .0 _ _ _), word-by-line _ _ (c .before .before .before .before .before .before .before .before .parse .ensures) (c .before .before .before .before .before .before .asked .given .1) (c .answer .ensures .1))
 
 pub answer-in-spec : {M : Type 1} → statement M
 answer-in-spec =

@@ -8,6 +8,9 @@ use Rattle.lines.proofs.devices.clock.Tie as tie
 begin-requires : tie.Need-begin-requires
 begin-requires c κs = search needs
 
+eight-words-requires : tie.Need-eight-words-requires
+eight-words-requires c κs = search needs
+
 slice-aggregate-put : tie.Need-slice-aggregate-put
 slice-aggregate-put c = search needs
 
@@ -16,20 +19,31 @@ put-requires c κs = search needs
 
 returns : tie.Need-returns
 returns c =
-    let begun = c .before .before .before .begin .ensures in (
+    let begun = c .before .before .before .before .before .before .begin .ensures in (
       search needs,
-      (λ _. record { said = c .put .ensures; fresh = begun .0 .0; time = begun .0 .1; kept = begun .1 .0; keeps = begun .1 .1 }, λ f. absurd (true≢false (sym (c .before .before .before .before .if1 .taken) ∙ f))),
+      (λ _. record { said = c .put .ensures; fresh = begun .0 .0; time = begun .0 .1; kept = begun .1 .0 .0; keeps = begun .1 .0 .1; counted = begun .1 .1 }, (λ f. absurd (true≢false (sym (c .before .before .before .before .before .before .before .if1 .taken) ∙ f)), c .before .before .before .eight-words .ensures)),
     )
 
 answer-requires : tie.Need-answer-requires
 answer-requires c κs = search needs
 
+eight-words-requires-2 : tie.Need-eight-words-requires-2
+eight-words-requires-2 c κs = search needs
+
 returns-2 : tie.Need-returns-2
 returns-2 c =
-    let answered = c .answer .ensures in
-    (search needs, (λ f. absurd (false≢true (sym (c .before .before .if1 .left) ∙ f)), λ _. answered))
+    let answered = c .before .before .before .before .answer .ensures in
+    (search needs, (λ f. absurd (false≢true (sym (c .before .before .before .before .before .before .if1 .left) ∙ f)), (λ _. answered, c .eight-words2 .ensures)))
 
 pub clock-spec : {M : Type 1} → statement M
 clock-spec =
     tie.close
-    (tie.spec begin-requires slice-aggregate-put put-requires returns answer-requires returns-2)
+    (tie.spec
+    begin-requires
+    eight-words-requires
+    slice-aggregate-put
+    put-requires
+    returns
+    answer-requires
+    eight-words-requires-2
+    returns-2)

@@ -18,7 +18,7 @@ returns : tie.Need-returns
 returns c =
     let begun = c .before .before .before .begin .ensures in (
       search needs,
-      (λ _. record { said = c .put .ensures; fresh = begun .0; kept = begun .1 }, λ f. absurd (true≢false (sym (c .before .before .before .before .if1 .taken) ∙ f))),
+      (λ _. record { said = c .put .ensures; fresh = begun .0; kept = begun .1 .0; counted = begun .1 .1 }, λ f. absurd (true≢false (sym (c .before .before .before .before .if1 .taken) ∙ f))),
     )
 
 answer-requires : tie.Need-answer-requires

@@ -25,6 +25,9 @@ element-write-regs c = search needs
 lsr-after-read-requires : tie.Need-lsr-after-read-requires
 lsr-after-read-requires c κs = search needs
 
+add-result : tie.Need-add-result
+add-result c = search needs
+
 returns : tie.Need-returns
 unfolding portOf
 returns c =
@@ -40,14 +43,14 @@ lsr-after-read-requires-2 c κs = search needs
 take-requires : tie.Need-take-requires
 take-requires c κs = search needs
 
-wide-requires : tie.Need-wide-requires
-wide-requires c κs = search needs
+delivered-requires : tie.Need-delivered-requires
+delivered-requires c κs = search needs
 
 returns-2 : tie.Need-returns-2
 unfolding portOf
 returns-2 c =
     let a = c .before .before .before .before .before .before .before .before .before .before .before .before .before .args in
-    reads-first (a .regs .now) (a .pos .now) (a .ring .now) (c .before .before .before .before .before .before .before .before .before .before .before .regs-len .ensures) _ (c .before .before .before .before .before .before .before .before .before .count .ensures) _ (c .before .before .before .before .before .before .after-data-read .ensures) _ (rw (c .wide .ensures) (c .before .take .ensures)) (c .before .before .before .before .before .if1 .left) (c .before .before .before .lsr-after-read2 .ensures)
+    reads-first (a .regs .now) (a .pos .now) (a .ring .now) (c .before .before .before .before .before .before .before .before .before .before .before .regs-len .ensures) _ (c .before .before .before .before .before .before .before .before .before .count .ensures) _ (c .before .before .before .before .before .before .after-data-read .ensures) _ _ (c .before .take .ensures) (c .before .before .before .before .before .if1 .left) (c .before .before .before .lsr-after-read2 .ensures) (c .delivered .ensures)
 
 pub read-any-rbr-spec : {M : Type 1} → statement M
 read-any-rbr-spec =
@@ -60,9 +63,10 @@ read-any-rbr-spec =
     after-data-read-requires
     element-write-regs
     lsr-after-read-requires
+    add-result
     returns
     sub-lsr-after-read
     lsr-after-read-requires-2
     take-requires
-    wide-requires
+    delivered-requires
     returns-2)

@@ -32,15 +32,15 @@ lsr-after-read-requires c κs = search needs
 take-requires : tie.Need-take-requires
 take-requires c κs = search needs
 
-wide-requires : tie.Need-wide-requires
-wide-requires c κs = search needs
+delivered-requires : tie.Need-delivered-requires
+delivered-requires c κs = search needs
 
 returns : tie.Need-returns
 unfolding portOf
 returns c =
     let a = c .before .before .before .before .before .before .before .before .before .before .before .before .args in
-    reads-last (a .regs .now) (a .pos .now) (a .ring .now) (c .before .before .before .before .before .before .before .before .before .regs-len .ensures) (omega (arith, c .before .before .before .before .before .before .before .before .if1 .taken)) (c .before .before .before .before .before .after-data-read .ensures) _
-    (rw (c .wide .ensures) (c .before .take .ensures)) (c .before .before .before .lsr-after-read .ensures)
+    reads-last (a .regs .now) (a .pos .now) (a .ring .now) (c .before .before .before .before .before .before .before .before .before .regs-len .ensures) (omega (arith, c .before .before .before .before .before .before .before .before .if1 .taken)) (c .before .before .before .before .before .after-data-read .ensures) _ _
+    (c .before .take .ensures) (c .before .before .before .lsr-after-read .ensures) (c .delivered .ensures)
 
 several-requires : tie.Need-several-requires
 several-requires c κs = search needs
@@ -51,15 +51,15 @@ several c = c .before .several .ensures (c .if2 .taken)
 take-requires-2 : tie.Need-take-requires-2
 take-requires-2 c κs = let s = several (c .before) in omega (arith, s .0)
 
-wide-requires-2 : tie.Need-wide-requires-2
-wide-requires-2 c κs = search needs
+delivered-requires-2 : tie.Need-delivered-requires-2
+delivered-requires-2 c κs = search needs
 
 returns-2 : tie.Need-returns-2
 unfolding portOf
 returns-2 c =
     let a = c .before .before .before .before .before .before .before .before .before .args in
     let s = several (c .before .before .before) in
-    reads-several (a .regs .now) (a .pos .now) (a .ring .now) (c .before .before .before .before .before .before .regs-len .ensures) _ _ (omega (arith, s .1)) (s .0) (rw (c .wide2 .ensures) (c .before .take2 .ensures))
+    reads-several (a .regs .now) (a .pos .now) (a .ring .now) (c .before .before .before .before .before .before .regs-len .ensures) _ _ _ (omega (arith, s .1)) (s .0) (c .before .take2 .ensures) (c .delivered2 .ensures)
 
 read-any-rbr-requires : tie.Need-read-any-rbr-requires
 read-any-rbr-requires c κs = search needs
@@ -79,11 +79,11 @@ read-rbr-spec =
     element-write-regs
     lsr-after-read-requires
     take-requires
-    wide-requires
+    delivered-requires
     returns
     several-requires
     take-requires-2
-    wide-requires-2
+    delivered-requires-2
     returns-2
     read-any-rbr-requires
     returns-3)

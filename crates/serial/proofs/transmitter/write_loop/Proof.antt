@@ -35,6 +35,9 @@ emptied-requires c κs = search needs
 mul-result : tie.Need-mul-result
 mul-result c = search needs
 
+add-result : tie.Need-add-result
+add-result c = search needs
+
 returns-2 : tie.Need-returns-2
 returns-2 c =
     let a = c .before .before .before .before .before .before .before .before .before .before .before .before .before .args in
@@ -52,11 +55,14 @@ add-receive c = search needs
 receive-requires : tie.Need-receive-requires
 receive-requires c κs = search needs
 
-add-result : tie.Need-add-result
-add-result c = search needs
+add-result-2 : tie.Need-add-result-2
+add-result-2 c = search needs
 
 mul-result-2 : tie.Need-mul-result-2
 mul-result-2 c = search needs
+
+add-result-3 : tie.Need-add-result-3
+add-result-3 c = search needs
 
 returns-3 : tie.Need-returns-3
 returns-3 c =
@@ -78,11 +84,13 @@ write-loop-spec =
     element-copy-out-emptied
     emptied-requires
     mul-result
+    add-result
     returns-2
     element-copy-out-push
     push-requires
     add-receive
     receive-requires
-    add-result
+    add-result-2
     mul-result-2
+    add-result-3
     returns-3)

@@ -1,3 +1,4 @@
+use mathlib.Core.Path.{refl}
 use borrow.Author.Needs.{needs}
 use Rattle.serial.proofs.waiting.take.Statement.{statement}
 use Rattle.serial.proofs.waiting.take.Tie as tie
@@ -24,7 +25,8 @@ first-requires : tie.Need-first-requires
 first-requires c κs = search needs
 
 returns : tie.Need-returns
-returns c = record { long = c .before .before .before .pos-len .ensures; moved = rw (c .before .next .ensures); byte = c .first .ensures }
+returns c =
+    record { long = c .before .before .before .pos-len .ensures; start = _; on = c .before .next .ensures; moved = refl; byte = c .first .ensures }
 
 pub take-spec : {M : Type 1} → statement M
 take-spec =

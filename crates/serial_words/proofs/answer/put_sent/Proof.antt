@@ -1,6 +1,5 @@
 -- Each answer is a law of `Saying`.
 use Rattle.serial_words.proofs.Saying.{none-sent, one-sent}
-use native.Mathlib.Omega.{arith}
 use borrow.Author.Needs.{needs}
 use Rattle.serial_words.proofs.answer.put_sent.Statement.{statement}
 use Rattle.serial_words.proofs.answer.put_sent.Tie as tie
@@ -12,7 +11,7 @@ put-requires : tie.Need-put-requires
 put-requires c κs = search needs
 
 returns : tie.Need-returns
-returns c = (none-sent (c .before .before .before .before .args .sent) (omega arith) (c .put .ensures), search needs)
+returns c = (none-sent (c .before .before .before .before .args .wrote) (c .before .before .before .if1 .taken) (c .put .ensures), search needs)
 
 cast-put-byte : tie.Need-cast-put-byte
 cast-put-byte c = search needs
@@ -21,7 +20,7 @@ put-byte-requires : tie.Need-put-byte-requires
 put-byte-requires c κs = search needs
 
 returns-2 : tie.Need-returns-2
-returns-2 c = (one-sent (c .before .before .before .args .sent) (omega arith) (c .put-byte .ensures .0), search needs)
+returns-2 c = (one-sent (c .before .before .before .args .wrote) (c .before .before .if1 .left) (c .put-byte .ensures .0), search needs)
 
 pub put-sent-spec : {M : Type 1} → statement M
 put-sent-spec =

@@ -1,8 +1,6 @@
-use Prim.Native.Nat.{_+_, _-_, _≤_, _<_}
-use mathlib.Core.Path.{_≡_}
+use Prim.Native.Nat.{_-_, _≤_}
 use borrow.Author.Needs.{needs}
 use native.Mathlib.Omega.{arith}
-use lib.ListN.{length}
 use Rattle.words.specs.Hex.{countOf}
 use Rattle.words.proofs.Pairs.{SoFar, nothing-there, too-many, odd, none-yet, high-fails, low-fails, one-more, all-there}
 use Rattle.words.proofs.hex.bytes_from.Statement.{statement}
