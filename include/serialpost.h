@@ -83,14 +83,14 @@ struct serialpost_restored {
     uint32_t raises;
 };
 
-/* Why a form is refused. Where several of these are true, docs/STATE-FORMAT.md says which is answered. */
+/* Why a form is refused. Where several of these are true, docs/STATE-FORMAT.md says which is answered. 0x10005
+ * was one, and is not used again. */
 enum serialpost_reason {
     SERIALPOST_NOT_REFUSED = 0,
     SERIALPOST_TOO_SHORT = 0x10001,       /* the form ends too early */
     SERIALPOST_TRAILING = 0x10002,        /* bytes follow it */
     SERIALPOST_UNKNOWN_VERSION = 0x10003, /* its version is not known */
     SERIALPOST_TOO_MANY = 0x10004,        /* more bytes wait than a port has room for */
-    SERIALPOST_OFFSET = 0x10005,          /* a clock is 2^32 seconds or more ahead, or more than 2^32 behind */
     SERIALPOST_SPARE = 0x10006            /* a spare byte or word is not 0, so there is no form */
 };
 
@@ -361,8 +361,8 @@ static inline struct serialpost_restored serialpost_clock_restore(struct serialp
 #define SERIALPOST_CLOCK_FORM_SIZE 26
 
 /* Puts a saved clock into bytes, in the form that docs/STATE-FORMAT.md tells. Writes the first bytes of `form`, and
- * the others stay. Where `form` is shorter nothing is written, and the answer is the same. Refused: an offset outside
- * -2^32 <= offset < 2^32, and a spare word that is not 0. */
+ * the others stay. Where `form` is shorter nothing is written, and the answer is the same. Refused: a spare word that
+ * is not 0. */
 static inline struct serialpost_encoded serialpost_clock_encode(const struct serialpost_clock *saved, uint8_t *form,
                                                                 uint64_t length)
 {

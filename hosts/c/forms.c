@@ -101,7 +101,7 @@ static uint32_t read_everywhere(const struct device *device, const uint8_t *form
 
 /* ---- Writing */
 
-/* Any state. What is spare is mostly 0; a clock's offset often lies at an end of what a form can hold. */
+/* Any state. What is spare is mostly 0; a clock's offset often lies at an end of 33 or of 64 signed bits. */
 static struct state any_state(const struct device *device)
 {
     struct state state;
@@ -113,10 +113,11 @@ static struct state any_state(const struct device *device)
     if (once_in(8))
         saved[spare + any() % (device->saved_size - spare)] = (uint8_t)(1 << any() % 8);
     if (device == &a_clock && !once_in(8)) {
-        static const uint32_t ends[] = { 0, UINT32_MAX }, beyond[] = { 1, UINT32_MAX - 1 };
+        static const uint32_t low[] = { 0, UINT32_MAX };
+        static const uint32_t high[] = { 0, UINT32_MAX, 1, UINT32_MAX - 1, 0x7fffffff, 0x80000000 };
         if (once_in(2))
-            state.saved.offset_low = ends[any() % 2];
-        state.saved.offset_high = (once_in(8) ? beyond : ends)[any() % 2];
+            state.saved.offset_low = low[any() % 2];
+        state.saved.offset_high = high[any() % 6];
     }
     return state;
 }
@@ -175,11 +176,10 @@ static size_t first_version(uint8_t form[LONGEST])
     return 11;
 }
 
-/* Cuts a form, lengthens it, changes one of its bytes, or a bit of a number that has limits: the version, how many
- * bytes wait, the offset. */
+/* Cuts a form, lengthens it, changes one of its bytes, or a bit of how many bytes wait, or of a clock's version. */
 static size_t damaged(const struct device *device, uint8_t form[LONGEST], size_t length)
 {
-    size_t limited = device == &a_clock ? 22 : length > 12 ? 11 : 0;
+    size_t limited = device == &serial_port && length > 12 ? 11 : 0;
     switch (any() % 4) {
     case 0:
         return any() % (length + 1);
@@ -211,21 +211,19 @@ static size_t any_form(const struct device *device, uint8_t form[LONGEST], unsig
 static void forms_of(const struct device *device, unsigned long count)
 {
     unsigned long met[REASONS] = { 0 }, unwritten[REASONS] = { 0 };
-    int own_reason = device == &serial_port ? 4 : 5, other_reason = 9 - own_reason;
     for (unsigned long i = 0; i < count; i++) {
         uint8_t form[LONGEST];
         size_t length = any_form(device, form, unwritten);
         uint32_t answer = read_everywhere(device, form, length);
         met[is_refused(answer) ? answer - 0x10000 : 0]++;
     }
-    printf("%s: %lu states; too short %lu, trailing %lu, version %lu, too many %lu, offset %lu\n", device->name, met[0],
-           met[1], met[2], met[3], met[4], met[5]);
-    printf("without a form: too many %lu, offset %lu, spare %lu\n", unwritten[4], unwritten[5], unwritten[6]);
+    printf("%s: %lu states; too short %lu, trailing %lu, version %lu, too many %lu\n", device->name, met[0], met[1], met[2],
+           met[3], met[4]);
+    printf("without a form: too many %lu, spare %lu\n", unwritten[4], unwritten[6]);
     for (int reason = 0; reason < REASONS; reason++) {
-        bool none = reason == other_reason || reason == 6;
-        EXPECT(none ? met[reason] == 0 : met[reason] > count / 100);
-        bool no_form = reason == own_reason || reason == 6;
-        EXPECT(no_form ? unwritten[reason] > count / 200 : unwritten[reason] == 0);
+        bool too_many = reason == 4 && device == &serial_port;
+        EXPECT(reason < 4 || too_many ? met[reason] > count / 100 : met[reason] == 0);
+        EXPECT(too_many || reason == 6 ? unwritten[reason] > count / 200 : unwritten[reason] == 0);
     }
 }
 

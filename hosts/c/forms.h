@@ -40,11 +40,6 @@ static uint32_t own_serial_reader(const uint8_t *form, size_t length, void *save
     return (uint32_t)n;
 }
 
-static bool has_33_bits(int64_t offset)
-{
-    return -0x100000000 <= offset && offset < 0x100000000;
-}
-
 static uint32_t own_clock_reader(const uint8_t *form, size_t length, void *saved, uint8_t *waiting)
 {
     (void)waiting;
@@ -56,16 +51,14 @@ static uint32_t own_clock_reader(const uint8_t *form, size_t length, void *saved
         return REASON(1);
     if (length > 26)
         return REASON(2);
-    int64_t offset = (int64_t)number_at(form, 18, 8);
-    if (!has_33_bits(offset))
-        return REASON(5);
     struct serialpost_clock *clock = saved;
     clock->load = (uint32_t)number_at(form, 2, 4);
     clock->match = (uint32_t)number_at(form, 6, 4);
     clock->mask = (uint32_t)number_at(form, 10, 4);
     clock->raw_status = (uint32_t)number_at(form, 14, 4);
+    uint64_t offset = number_at(form, 18, 8);
     clock->offset_low = (uint32_t)offset;
-    clock->offset_high = (uint32_t)((uint64_t)offset >> 32);
+    clock->offset_high = (uint32_t)(offset >> 32);
     clock->spare[0] = clock->spare[1] = 0;
     return 0;
 }
@@ -87,8 +80,6 @@ static uint32_t own_clock_size(const void *saved, size_t count)
 {
     (void)count;
     const struct serialpost_clock *clock = saved;
-    if (!has_33_bits((int64_t)((uint64_t)clock->offset_high << 32 | clock->offset_low)))
-        return REASON(5);
     return clock->spare[0] != 0 || clock->spare[1] != 0 ? REASON(6) : 26;
 }
 

@@ -13,7 +13,7 @@
 
 #define LONGEST 200
 
-static const char *const reasons[] = { NULL, "too short", "trailing", "version", "too many", "offset" };
+static const char *const reasons[] = { NULL, "too short", "trailing", "version", "too many" };
 
 static unsigned long lines; /* up to the one that is being read */
 
@@ -81,7 +81,7 @@ static void answer(const struct device *device, const char *digits)
     uint32_t read = device->read(form, length, &saved, waiting);
     EXPECT(device->own_reader(form, length, &own_saved, own_waiting) == read);
     if (is_refused(read)) {
-        EXPECT(read > 0x10000 && read <= SERIALPOST_OFFSET);
+        EXPECT(read > 0x10000 && read <= SERIALPOST_TOO_MANY);
         printf("%s\n", reasons[read - 0x10000]);
         return;
     }

@@ -383,10 +383,26 @@ static void a_clock_is_kept_as_bytes(void)
     form[0] = 2;
     EXPECT(serialpost_clock_decode(form, sizeof form, &again) == SERIALPOST_UNKNOWN_VERSION);
     clock.spare[1] = 1;
-    EXPECT(serialpost_clock_encode(&clock, form, sizeof form).reason == SERIALPOST_SPARE);
-    clock.offset_high = 1;
     encoded = serialpost_clock_encode(&clock, form, sizeof form);
-    EXPECT(encoded.length == 0 && encoded.reason == SERIALPOST_OFFSET && form[0] == 2);
+    EXPECT(encoded.length == 0 && encoded.reason == SERIALPOST_SPARE && form[0] == 2);
+}
+
+/* Where the sum with the host's time does not fit 32 bits, or not even 64, the clock shows the host's time. */
+static void a_clock_with_any_offset_is_kept_as_bytes(void)
+{
+    static const int64_t offsets[] = { INT64_MAX, INT64_MIN, INT64_MAX - UINT32_MAX, 0x100000000, -0x100000000, -0x100000001 };
+    static const uint64_t times[] = { 0, 1, 1000, 0x7fffffff, 0xffffffff };
+    for (size_t i = 0; i < sizeof offsets / sizeof *offsets; i++) {
+        uint64_t bits = (uint64_t)offsets[i];
+        struct serialpost_clock clock = { 5, 77, 1, 0, (uint32_t)bits, (uint32_t)(bits >> 32), { 0, 0 } }, read, restored;
+        uint8_t form[SERIALPOST_CLOCK_FORM_SIZE];
+        EXPECT(serialpost_clock_encode(&clock, form, sizeof form).reason == SERIALPOST_NOT_REFUSED);
+        EXPECT(serialpost_clock_decode(form, sizeof form, &read) == SERIALPOST_NOT_REFUSED);
+        EXPECT(!serialpost_clock_restore(&restored, &read).reachable);
+        EXPECT(memcmp(&restored, &clock, sizeof clock) == 0);
+        for (size_t k = 0; k < sizeof times / sizeof *times; k++)
+            EXPECT(clock_at(&restored, SERIALPOST_RTCDR, times[k]) == times[k]);
+    }
 }
 
 /* ---- Counters */
@@ -576,6 +592,7 @@ int main(void)
     a_clock_moves_to_another_host();
     a_clock_that_no_run_comes_to_is_restored_and_told();
     a_clock_is_kept_as_bytes();
+    a_clock_with_any_offset_is_kept_as_bytes();
     reads_are_counted();
     bytes_sent_and_lost_are_counted();
     a_run_is_counted();

@@ -19,7 +19,7 @@ const REGS_SIZE = 16;
 const POS_SIZE = 16;
 const PLACES = 1024;
 const SERIAL_FORM_MOST = 77;
-const REASONS = [undefined, "too short", "trailing", "version", "too many", "offset", "spare"];
+const REASONS = [undefined, "too short", "trailing", "version", "too many", undefined, "spare"]; // 5 is not used again
 
 // The bits of the word that a call answers, by their names in include/serialpost_raw.h: one layout for all calls.
 const WORD_NUMBER = 0xffff;

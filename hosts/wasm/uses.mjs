@@ -112,11 +112,20 @@ function formsAreAsRecorded(library) {
 function statesWithoutAFormAreRefused(library) {
     const port = { ...new SerialPort(library).save(), waiting: anyBytes(65) };
     expect(encodePort(library, port).reason, "too many", "65 bytes wait");
-    const clock = { ...new Clock(library).save(), offset: 2n ** 32n };
-    expect(encodeClock(library, clock).reason, "offset", "a clock is 2^32 ahead");
     const spare = { ...new SerialPort(library).save(), regs: new Uint8Array(16).fill(1, 15) };
     expect(encodePort(library, spare).reason, "spare", "a spare register is 1");
     expect(encodeClock(library, { ...new Clock(library).save(), spare: 1n }).reason, "spare", "a spare word is 1");
+}
+
+function clocksWithAnyOffsetAreKeptAsBytes(library) {
+    for (const offset of [2n ** 32n, 2n ** 63n - 1n, 2n ** 63n, 2n ** 64n - 2n ** 32n - 1n]) {
+        const saved = { ...new Clock(library).save(), offset }, clock = new Clock(library);
+        const read = decodeClock(library, encodeClock(library, saved).form).saved;
+        expect(clockText(read), clockText(saved), "a clock that was written and read");
+        expect(clock.restore(read), false, "whether a run comes to the clock");
+        for (const time of [0n, 1000n, 2n ** 32n - 1n])
+            expect(hexOf(clock.read(0, time, [0, 0, 0, 0]).bytes), hexOf(new Uint32Array([Number(time)]).buffer), "the host's time");
+    }
 }
 
 // ---- States
@@ -238,6 +247,7 @@ function main(words) {
     runsAreCallsOneAfterAnother(library);
     formsAreAsRecorded(library);
     statesWithoutAFormAreRefused(library);
+    clocksWithAnyOffsetAreKeptAsBytes(library);
     devicesAreSavedAndRestored(library);
     theLineIsHighWhileAByteWaits(library);
     whatHappensIsToldAndCounted(library);

@@ -1,6 +1,5 @@
-pub mod Offsets
 pub mod Numbers
 pub mod Reading
 pub mod Answers
 pub mod RoundTrip
-pub mod Reached
+pub mod Every

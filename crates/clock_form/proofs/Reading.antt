@@ -1,6 +1,6 @@
 -- What reading comes to, by conditions alone and exactly.
-use mathlib.Core.Path.{_≡_, refl, _∙_}
-use mathlib.Core.Bool.{Bool, true, false}
+use mathlib.Core.Path.{_≡_, _∙_}
+use mathlib.Core.Bool.{false}
 use mathlib.Core.List.{List}
 use Prim.Native.Nat.{ℕ, _<_}
 use native.Mathlib.Decide.{decLt, ℕ-discrete}
@@ -8,8 +8,8 @@ use native.Mathlib.Omega.{arith}
 use lib.Dec.{ltb}
 use lib.ListN.{length}
 use borrow.Author.Tests.{lt-ltb, le-ltb, eq-eqb, ne-eqb}
-use Rattle.clock_form.specs.Form.{current, formLength, offsetFits, Read, versionIn, wordsIn, readCurrent, readForm}
-use Rattle.clock_form.specs.Outcomes.{Known, Comes, noVersion, otherVersion, cutOff, leftOver, tooFar, whole}
+use Rattle.clock_form.specs.Form.{current, formLength, Read, versionIn, readCurrent, readForm}
+use Rattle.clock_form.specs.Outcomes.{Known, Comes, noVersion, otherVersion, cutOff, leftOver, whole}
 
 module _ (form : List ℕ) where
   known-current : Known form → readForm form ≡ readCurrent form
@@ -30,23 +30,20 @@ module _ (form : List ℕ) where
   only-so (otherVersion h v) = rw (le-ltb (length form) 2 h, ne-eqb (versionIn form) current v)
   only-so (cutOff k h) = known-current k ∙ rw (lt-ltb (length form) formLength h)
   only-so (leftOver k h) = known-current k ∙ rw (le-ltb (length form) formLength (omega arith), lt-ltb formLength (length form) h)
-  only-so (tooFar k e f) = known-current k ∙ rw (neither-short e, nor-long e, f)
-  only-so (whole k e f) = known-current k ∙ rw (neither-short e, nor-long e, f)
+  only-so (whole k e) = known-current k ∙ rw (neither-short e, nor-long e)
 
   -- and some conditions always hold. So there is no form between.
   pub comes : Comes form (readForm form)
   comes =
       go (decLt (length form) 2) (ℕ-discrete (versionIn form) current) (decLt (length form) formLength) (decLt formLength (length form))
-      (offsetFits (wordsIn form)) refl
     where
       by : {o : Read} → Comes form o → Comes form (readForm form)
       by o = rw (only-so o) o
 
       go : Dec (length form < 2) → Dec (versionIn form ≡ current) → Dec (length form < formLength) → Dec (formLength < length form)
-          → (f : Bool) → offsetFits (wordsIn form) ≡ f → Comes form (readForm form)
-      go (yes h) v s t f e = by (noVersion h)
-      go (no h) (no v) s t f e = by (otherVersion (omega arith) v)
-      go (no h) (yes v) (yes s) t f e = by (cutOff (record { there = omega arith; known = v }) s)
-      go (no h) (yes v) (no s) (yes t) f e = by (leftOver (record { there = omega arith; known = v }) t)
-      go (no h) (yes v) (no s) (no t) false e = by (tooFar (record { there = omega arith; known = v }) (omega arith) e)
-      go (no h) (yes v) (no s) (no t) true e = by (whole (record { there = omega arith; known = v }) (omega arith) e)
+          → Comes form (readForm form)
+      go (yes h) v s t = by (noVersion h)
+      go (no h) (no v) s t = by (otherVersion (omega arith) v)
+      go (no h) (yes v) (yes s) t = by (cutOff (record { there = omega arith; known = v }) s)
+      go (no h) (yes v) (no s) (yes t) = by (leftOver (record { there = omega arith; known = v }) t)
+      go (no h) (yes v) (no s) (no t) = by (whole (record { there = omega arith; known = v }) (omega arith))

@@ -1,6 +1,6 @@
 -- Writing and reading are inverse. That nothing past the end is read needs no theorem: no index is out of range in code that is proved.
 use mathlib.Core.Path.{_≡_, refl, sym, ap, _∙_}
-use mathlib.Core.Bool.{Bool, true, false, cond}
+use mathlib.Core.Bool.{true, false}
 use mathlib.Core.List.{List, [], _∷_, _++_}
 use Prim.Native.Nat.{ℕ, zero, suc, _+_, _^_, _≤_, _<_}
 use native.Mathlib.Omega.{arith}
@@ -8,17 +8,15 @@ use lib.Dec.{lit<}
 use lib.ListN.{length, getD, take, drop, length-drop, take-append-drop, drop-of-length-le}
 use lib.Seq.{drop-drop, length-take-le, take-at}
 use borrow.Author.Tests.{le-leb}
-use Rattle.common.proofs.Booleans.{both-true}
 use Rattle.common.specs.Bytes.{bytesOf, valueOf, Bytes}
-use Rattle.common.specs.Forms.{offset, refusalWord}
 use Rattle.common.proofs.Bytes.{bytes-take, bytes-drop, value-of-bytes, value-small, bytes-of-value}
-use Rattle.clock.specs.Layout.{Words, clockOf, spareOf, spareIsZero}
+use Rattle.clock.specs.Layout.{Words, spareOf, spareIsZero}
 use Rattle.clock.proofs.Stores.{eight-are}
 use Rattle.clock.proofs.Spare.{spare-zero}
-use Rattle.clock_form.specs.Form.{current, formLength, offsetFits, hasForm, whyNone, bytesOfWords, formOf, Read, refused, reads}
+use Rattle.clock_form.specs.Form.{current, formLength, bytesOfWords, formOf, Read, refused, reads}
 use Rattle.clock_form.specs.Form.{versionIn, wordAt, wordsIn, readForm}
 use Rattle.clock_form.specs.Calls.{answerOf, wordsAfter, Encodes, Decodes}
-use Rattle.clock_form.specs.Outcomes.{Known, Comes, whole, tooFar, ReadFrom}
+use Rattle.clock_form.specs.Outcomes.{Known, Comes, whole, ReadFrom}
 use Rattle.clock_form.proofs.Numbers.{form-length}
 use Rattle.clock_form.proofs.Reading.{only-so, comes}
 
@@ -47,18 +45,13 @@ nothing-cleared words n z = eight-are (λ l. spareOf l ≡ 0 ∷ 0 ∷ [] → cl
     each : (a b c d e f g h : ℕ) → g ∷ h ∷ [] ≡ 0 ∷ 0 ∷ [] → a ∷ b ∷ c ∷ d ∷ e ∷ f ∷ 0 ∷ 0 ∷ [] ≡ a ∷ b ∷ c ∷ d ∷ e ∷ f ∷ g ∷ h ∷ []
     each a b c d e f g h z = rw z
 
--- The form says all of the offset.
-offset-back : (words : List ℕ) → length words ≡ 8 → offsetFits (cleared words) ≡ offsetFits words
-unfolding offsetFits clockOf
-offset-back = eight-are (λ l. offsetFits (cleared l) ≡ offsetFits l) (λ _ _ _ _ _ _ _ _. refl)
-
 version-back : (words : List ℕ) → versionIn (formOf words) ≡ current
 unfolding formOf bytesOf valueOf
 version-back words = refl
 
--- What was written of any words is read with their spare ones cleared, or refused for its offset.
-pub read-any : (words : List ℕ) → Words words → readForm (formOf words) ≡ cond (offsetFits words) (reads (cleared words)) (refused offset)
-read-any words w = go (offsetFits words) refl
+-- What was written of any words is read, with their spare ones cleared.
+pub read-any : (words : List ℕ) → Words words → readForm (formOf words) ≡ reads (cleared words)
+read-any words w = only-so (formOf words) (whole known long) ∙ ap reads (words-back words w)
   where
     long : length (formOf words) ≡ formLength
     long = form-length words (w .eight)
@@ -66,25 +59,11 @@ read-any words w = go (offsetFits words) refl
     known : Known (formOf words)
     known = record { there = omega (arith, long); known = version-back words }
 
-    fits : offsetFits (wordsIn (formOf words)) ≡ offsetFits words
-    fits = ap offsetFits (words-back words w) ∙ offset-back words (w .eight)
+-- So any clock whose spare words are 0 is read as it was, whatever its offset.
+pub read-written : (words : List ℕ) → Words words → spareIsZero words ≡ true → readForm (formOf words) ≡ reads words
+read-written words w z = read-any words w ∙ ap reads (nothing-cleared words (w .eight) z)
 
-    go : (f : Bool) → offsetFits words ≡ f → readForm (formOf words) ≡ cond f (reads (cleared words)) (refused offset)
-    go true e = only-so (formOf words) (whole known long (fits ∙ e)) ∙ ap reads (words-back words w)
-    go false e = only-so (formOf words) (tooFar known long (fits ∙ e))
-
--- A clock that has a form has both of these.
-fits-and-zero : (words : List ℕ) → hasForm words ≡ true → (offsetFits words ≡ true) × (spareIsZero words ≡ true)
-unfolding hasForm
-fits-and-zero words e = both-true (offsetFits words) (spareIsZero words) e
-
--- So a clock that has a form is read as it was.
-pub read-written : (words : List ℕ) → Words words → hasForm words ≡ true → readForm (formOf words) ≡ reads words
-read-written words w f =
-    let k = fits-and-zero words f in
-    read-any words w ∙ rw (k .0) (ap reads (nothing-cleared words (w .eight) (k .1)))
-
--- ---- What is read is a clock that has a form, and is written as the same bytes
+-- ---- What is read is a clock whose spare words are 0, and is written as the same bytes
 
 module _ (form : List ℕ) (b : Bytes form) (all : length form ≡ formLength) where
   module _ (place : ℕ) (inside : place + 4 ≤ length form) where
@@ -130,29 +109,22 @@ module _ (form : List ℕ) (b : Bytes form) (all : length form ≡ formLength) w
       (word-again 14 (omega arith) (word-again 18 (omega arith) (word-again 22 (omega arith) end))))) in
       rw (front, words) (take-append-drop 2 form)
 
--- The spare words are read as 0.
-zero-read : (form : List ℕ) → offsetFits (wordsIn form) ≡ true → hasForm (wordsIn form) ≡ true
-unfolding hasForm wordsIn spareIsZero
-zero-read form f = rw f
+zero-read : (form : List ℕ) → spareIsZero (wordsIn form) ≡ true
+unfolding wordsIn spareIsZero
+zero-read form = refl
 
 pub written-read : (form words : List ℕ) → Bytes form → readForm form ≡ reads words → ReadFrom form words
 written-read form words b r = go (rw r at (comes form))
   where
     go : {words : List ℕ} → Comes form (reads words) → ReadFrom form words
-    go (whole k e f) = record { long = e; fits = read-words form b e; has-form = zero-read form f; written = same-form form b e (k .known) }
+    go (whole k e) = record { long = e; fits = read-words form b e; spare = zero-read form; written = same-form form b e (k .known) }
 
 -- ---- The same by the calls
 
--- A clock that has no form is refused by the writer, for its offset or else for its spare words, and nothing is written.
-pub encode-refused : {words form form′ : List ℕ} {r : ℕ} → hasForm words ≡ false → Encodes words form form′ r
-    → (r ≡ refusalWord (whyNone words)) × (form′ ≡ form)
-encode-refused f e = (rw f at (e .answer), rw f at (e .memory))
-
--- No spare word is dropped.
-pub spare-refused : {words form form′ : List ℕ} {r : ℕ} → spareIsZero words ≡ false → offsetFits words ≡ true → Encodes words form form′ r
+-- No spare word is dropped: the writer refuses it, and nothing is written.
+pub spare-refused : {words form form′ : List ℕ} {r : ℕ} → spareIsZero words ≡ false → Encodes words form form′ r
     → (r ≡ 0x1_0006) × (form′ ≡ form)
-unfolding hasForm whyNone
-spare-refused {words} z f e = (rw (f, z) at (e .answer), rw (f, z) at (e .memory))
+spare-refused z e = (rw z at (e .answer), rw z at (e .memory))
 
 -- Whatever is answered but 0, the words are as they were.
 pub decode-refused : {o : Read} {saved saved′ : List ℕ} {r : ℕ} → Decodes o saved saved′ r → (r ≡ 0 → ⊥) → saved′ ≡ saved
@@ -160,20 +132,20 @@ decode-refused {o = refused reason} d n = d .words
 decode-refused {o = reads words} d n = absurd (n (d .answer))
 
 -- Where there is room, the form lies first.
-encoded : {words form form′ : List ℕ} {r : ℕ} → length words ≡ 8 → hasForm words ≡ true → formLength ≤ length form
+encoded : {words form form′ : List ℕ} {r : ℕ} → length words ≡ 8 → spareIsZero words ≡ true → formLength ≤ length form
     → Encodes words form form′ r
     → (r ≡ formLength) × (take r form′ ≡ formOf words)
-encoded {words} {form} {form′} {r} eight f h e =
-    let long : r ≡ formLength = rw f at (e .answer) in
-    let there : form′ ≡ formOf words ++ drop formLength form = rw (f, le-leb formLength (length form) h) at (e .memory) in
+encoded {words} {form} {form′} {r} eight z h e =
+    let long : r ≡ formLength = rw z at (e .answer) in
+    let there : form′ ≡ formOf words ++ drop formLength form = rw (z, le-leb formLength (length form) h) at (e .memory) in
     (long, rw (long, there) (take-at (formOf words) (drop formLength form) formLength (form-length words eight)))
 
 -- Written into memory with room for it, and read from there.
-pub decode-encoded : {words form form′ saved saved′ : List ℕ} {r r′ : ℕ} → Words words → hasForm words ≡ true → formLength ≤ length form
+pub decode-encoded : {words form form′ saved saved′ : List ℕ} {r r′ : ℕ} → Words words → spareIsZero words ≡ true → formLength ≤ length form
     → Encodes words form form′ r → Decodes (readForm (take r form′)) saved saved′ r′ → (r ≡ formLength) × (r′ ≡ 0) × (saved′ ≡ words)
-decode-encoded {words} {saved = saved} w f h e d =
-    let there = encoded (w .eight) f h e in
-    let back = ap readForm (there .1) ∙ read-written words w f in
+decode-encoded {words} {saved = saved} w z h e d =
+    let there = encoded (w .eight) z h e in
+    let back = ap readForm (there .1) ∙ read-written words w z in
     (there .0, d .answer ∙ ap answerOf back, d .words ∙ ap (λ (o : Read). wordsAfter o saved) back)
 
 -- Read, and written into memory with room for it.
@@ -185,5 +157,5 @@ encode-decoded {form} {saved} {words} {memory} {memory′} {r} b d e h = go (rea
     go (refused reason) s a v = absurd (omega arith)
     go (reads read) s a v =
         let k = written-read form words b (s ∙ ap reads (sym v)) in
-        let there = encoded (k .fits .eight) (k .has-form) h e in
+        let there = encoded (k .fits .eight) (k .spare) h e in
         (there .0 ∙ sym (k .long), there .1 ∙ k .written)

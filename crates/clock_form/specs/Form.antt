@@ -1,15 +1,12 @@
 -- A saved clock as bytes: a version of two bytes, then its words but the spare ones, four bytes each. The lowest byte of a number is its
 -- first.
-use Prim.Native.Nat.{ℕ, _^_}
-use mathlib.Core.Bool.{Bool, cond, _&&_}
+use Prim.Native.Nat.{ℕ}
+use mathlib.Core.Bool.{cond}
 use mathlib.Core.List.{List, [], _∷_, _++_}
 use lib.Dec.{eqb, ltb}
-use lib.IntN.{ℤ, pos, negℤ}
 use lib.ListN.{length, take, drop}
-use lib.Signed.{leZ, ltZ}
 use Rattle.common.specs.Bytes.{bytesOf, valueOf}
-use Rattle.common.specs.Forms.{Reason, tooShort, trailing, version, offset, spare}
-use Rattle.clock.specs.Layout.{clockOf, spareIsZero}
+use Rattle.common.specs.Forms.{Reason, tooShort, trailing, version}
 
 -- The version that is written, and the only one that is read.
 abbrev pub current : ℕ
@@ -18,21 +15,6 @@ current = 1
 -- How many bytes every form has.
 abbrev pub formLength : ℕ
 formLength = 26
-
--- ---- The clocks that have a form: an offset of 33 signed bits, and spare words that are 0
-
-abbrev pub within33 : ℤ → Bool
-within33 z = leZ (negℤ (pos (2 ^ 32))) z && ltZ z (pos (2 ^ 32))
-
-unfoldable pub offsetFits : List ℕ → Bool
-offsetFits words = within33 (clockOf words .ahead)
-
-unfoldable pub hasForm : List ℕ → Bool
-hasForm words = offsetFits words && spareIsZero words
-
--- Why another has none.
-unfoldable pub whyNone : List ℕ → Reason
-whyNone words = cond (offsetFits words) spare offset
 
 -- ---- Writing
 
@@ -64,8 +46,7 @@ unfoldable pub readCurrent : List ℕ → Read
 readCurrent form =
     cond (ltb (length form) formLength) (refused tooShort)
     (cond (ltb formLength (length form)) (refused trailing)
-    (cond (offsetFits (wordsIn form)) (reads (wordsIn form))
-    (refused offset)))
+    (reads (wordsIn form)))
 
 unfoldable pub readForm : List ℕ → Read
 readForm form =

@@ -16,8 +16,7 @@ ghost use Prim.Native.Nat.{_+_, _≤_};
 ghost use lib.ListN.{length};
 ghost use lib.Seq.{sets};
 ghost use Rattle.common.specs.Bytes.{bytesOf};
-ghost use Rattle.clock.specs.Layout.{joined, signed};
-ghost use Rattle.clock_form.specs.Form.{current, formLength, within33, formOf, wordAt, wordsIn, readForm};
+ghost use Rattle.clock_form.specs.Form.{current, formLength, formOf, wordAt, wordsIn, readForm};
 ghost use Rattle.clock_form.specs.Calls.{Encodes, Decodes};
 
 // The version that is written, and the only one that is read.
@@ -33,8 +32,6 @@ const TOO_SHORT: u32 = 0x1_0001;
 const TRAILING: u32 = 0x1_0002;
 
 const VERSION: u32 = 0x1_0003;
-
-const OFFSET: u32 = 0x1_0005;
 
 const SPARE: u32 = 0x1_0006;
 
@@ -55,19 +52,6 @@ fn word(form: &[u8], at: usize) -> u32
     ensures { λ r. ⌜ r ≡ wordAt (now (form .entry)) at ⌝ }
 {
     number(form[at], form[at + 1], form[at + 2], form[at + 3])
-}
-
-// Whether an offset has 33 signed bits: then its high half repeats the sign.
-fn has_33_bits(low: u32, high: u32) -> bool
-    ensures { λ r. ⌜ r ≡ within33 (signed (joined low high)) ⌝ }
-{
-    if high == 0 {
-        return true;
-    }
-    if high == 0xffff_ffff {
-        return true;
-    }
-    false
 }
 
 // ---- Writing
@@ -99,9 +83,6 @@ pub fn encode(saved: &Clock, form: &mut [u8]) -> u32
     ensures { λ r. ⌜ Encodes (now (saved .entry)) (now (form .entry)) (now (form .exit)) r ⌝ }
 {
     eight_words(saved);
-    if !has_33_bits(saved[AHEAD_LOW], saved[AHEAD_HIGH]) {
-        return OFFSET;
-    }
     if !spare_is_zero(saved) {
         return SPARE;
     }
@@ -145,9 +126,6 @@ pub fn decode(form: &[u8], saved: &mut Clock) -> u32
     }
     if LENGTH < length {
         return TRAILING;
-    }
-    if !has_33_bits(word(form, 18), word(form, 22)) {
-        return OFFSET;
     }
     read(form, saved);
     0

@@ -15,8 +15,6 @@ pub enum FormError {
     Version,
     /// More than 64 bytes wait in a port.
     TooManyBytes,
-    /// The offset of a clock does not lie within 33 signed bits.
-    Offset,
     /// A spare byte of a port or a spare word of a clock is not 0. Only who calls the library directly meets this: a state
     /// of this crate has none.
     Spare,
@@ -29,7 +27,6 @@ impl fmt::Display for FormError {
             FormError::TrailingBytes => "bytes follow the form",
             FormError::Version => "the form has a version that is not known",
             FormError::TooManyBytes => "more bytes wait than a port has room for",
-            FormError::Offset => "the clock's offset does not lie within 33 signed bits",
             FormError::Spare => "a spare byte or word is not 0",
         })
     }

@@ -176,7 +176,6 @@ impl Answer {
             2 => FormError::TrailingBytes,
             3 => FormError::Version,
             4 => FormError::TooManyBytes,
-            5 => FormError::Offset,
             6 => FormError::Spare,
             other => unreachable!("{other} is no reason of the library"),
         })

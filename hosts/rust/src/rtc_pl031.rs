@@ -86,8 +86,7 @@ impl RtcState {
         Clock::restored(&self.words()).1.reachable()
     }
 
-    /// The state as bytes, in the form that docs/STATE-FORMAT.md tells. One whose offset does not lie within 33 signed
-    /// bits has none: [`FormError::Offset`].
+    /// The state as bytes, in the form that docs/STATE-FORMAT.md tells. Every state has one.
     ///
     /// vm-superio does not have this.
     pub fn to_bytes(&self) -> Result<Vec<u8>, FormError> {

@@ -1,8 +1,7 @@
 -- `decode` meets its contract: each return by its lemma.
 use native.Mathlib.Omega.{arith}
-use Rattle.clock_form.proofs.Answers.{decode-no-version, decode-other-version, decode-cut-off, decode-left-over, decode-too-far, decode-reads}
+use Rattle.clock_form.proofs.Answers.{decode-no-version, decode-other-version, decode-cut-off, decode-left-over, decode-reads}
 use borrow.Author.Needs.{needs}
-use borrow.Author.Tests.{not-true, not-false}
 use Rattle.clock_form.proofs.decode.Statement.{statement}
 use Rattle.clock_form.proofs.decode.Tie as tie
 
@@ -36,34 +35,15 @@ returns-4 c =
     let a = number .before .before .before .before .before .args in
     decode-left-over (a .form .now) (a .saved .now) (omega arith) (number .number .ensures) (c .before .before .if2 .left) (omega arith)
 
-word-requires : tie.Need-word-requires
-word-requires c κs = search needs
-
-word-requires-2 : tie.Need-word-requires-2
-word-requires-2 c κs = search needs
-
-has-33-bits-requires : tie.Need-has-33-bits-requires
-has-33-bits-requires c κs = search needs
-
-returns-5 : tie.Need-returns-5
-returns-5 c =
-    let low = c .before .before .before in
-    let known = low .before .before .before in
-    let a = known .before .before .before .before .before .before .args in
-    decode-too-far (a .form .now) (a .saved .now) (omega arith) (known .before .number .ensures) (known .if2 .left) (omega arith) (low .word .ensures)
-    (c .before .before .word2 .ensures) (c .before .has-33-bits .ensures) (not-true _ (c .if5 .taken))
-
 read-requires : tie.Need-read-requires
 read-requires c κs = search needs
 
-returns-6 : tie.Need-returns-6
-returns-6 c =
-    let fits = c .before .before in
-    let low = fits .before .before .before in
-    let known = low .before .before .before in
+returns-5 : tie.Need-returns-5
+returns-5 c =
+    let known = c .before .before .before .before in
     let a = known .before .before .before .before .before .before .args in
-    decode-reads (a .form .now) (a .saved .now) (omega arith) (known .before .number .ensures) (known .if2 .left) (omega arith) (low .word .ensures)
-    (fits .before .before .word2 .ensures) (fits .before .has-33-bits .ensures) (not-false _ (fits .if5 .left)) (c .read .ensures)
+    decode-reads (a .form .now) (a .saved .now) (omega arith) (known .before .number .ensures) (known .if2 .left) (omega arith)
+    (c .read .ensures)
 
 pub decode-spec : {M : Type 1} → statement M
 decode-spec =
@@ -76,9 +56,5 @@ decode-spec =
     returns-2
     returns-3
     returns-4
-    word-requires
-    word-requires-2
-    has-33-bits-requires
-    returns-5
     read-requires
-    returns-6)
+    returns-5)
