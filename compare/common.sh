@@ -98,6 +98,15 @@ judge() {
     beside "$what" "${original:-$account}" "${replay:-account}" "$(list "$@" "${devices[@]}" $domain)"
 }
 
+# sized WHAT ARGUMENT..: whether replay answers as our account on such a list, which has ports of all sizes. The original has one
+# size and is not asked.
+sized() {
+    local what=$1
+    shift
+    [[ ,$replay_devices, == *,serial,* ]] || return 0
+    agree "$what" account "$replay" "$(list "$@" --devices serial)"
+}
+
 # What was not compared, the last line, and the status of the command.
 summary() {
     if [ -z "${original-}" ]; then

@@ -2,6 +2,9 @@
  * Serialpost: the proved functions themselves, as libserialpost.a has them. For C and C++ serialpost.h is the page to
  * read: it has a typed call for each of these and says what it does. This page is for the bindings of other languages.
  *
+ * The names carry the version of the interface. A host that was compiled for another version asks for names that this
+ * library does not have, so it does not link: a call never meets arguments or memory of another shape in silence.
+ *
  * An answer of 32 bits is a word with the layout below; a bit that a call has no use for is 0. Of the numbers, a
  * reply or a byte to send has 8 bits. Bits 0x1000000 to 0x8000000 are spare. `saved` and `waiting` are the parts of a
  * saved port.
@@ -18,8 +21,8 @@ extern "C" {
 
 enum {
     SERIALPOST_WORD_NUMBER = 0xffff,      /* a reply, a byte to send, how many bytes; of a refused form the reason */
-    SERIALPOST_WORD_REFUSED = 0x10000,    /* refused: an input because the port is full, a restore of too many bytes, an
-                                           * invalid access of the clock, a form */
+    SERIALPOST_WORD_REFUSED = 0x10000,    /* refused: a size with which no port is made, an input because the port is
+                                           * full, a restore of too many bytes, an invalid access of the clock, a form */
     SERIALPOST_WORD_SENDS = 0x20000,      /* the number is a byte to send */
     SERIALPOST_WORD_REACHABLE = 0x40000,  /* a run comes to the restored state */
     SERIALPOST_WORD_DATA_READ = 0x80000,  /* RBR was read, from an empty buffer too */
@@ -34,43 +37,44 @@ struct serialpost_clock;
 struct serialpost_serial_counters;
 struct serialpost_clock_counters;
 
-uint32_t serialpost_raw_version(void);
+uint32_t serialpost4_version(void);
 
-void serialpost_raw_serial_init(uint8_t regs[16], uint32_t pos[4]);
-uint32_t serialpost_raw_serial_read(uint8_t regs[16], uint32_t pos[4], const uint8_t ring[1024], uint8_t offset);
-uint32_t serialpost_raw_serial_write(uint8_t regs[16], uint32_t pos[4], uint8_t ring[1024], uint8_t offset, uint8_t value);
-uint32_t serialpost_raw_serial_input(uint8_t regs[16], uint32_t pos[4], uint8_t ring[1024], const uint8_t *input,
-                                     uint64_t length);
-uint32_t serialpost_raw_serial_room(const uint32_t pos[4]);
-bool serialpost_raw_serial_line(const uint8_t regs[16], const uint32_t pos[4]);
-bool serialpost_raw_serial_play(uint8_t regs[16], uint32_t pos[4], uint8_t ring[1024], const uint8_t *ops,
-                                uint64_t ops_length, const uint8_t *inputs, uint64_t inputs_length, uint32_t *answers,
-                                uint64_t answers_length);
-uint32_t serialpost_raw_serial_save(const uint8_t regs[16], const uint32_t pos[4], const uint8_t ring[1024],
-                                    uint8_t saved[16], uint8_t waiting[1024]);
-uint32_t serialpost_raw_serial_restore(uint8_t regs[16], uint32_t pos[4], uint8_t ring[1024], const uint8_t saved[16],
-                                       const uint8_t *waiting, uint64_t length);
-uint32_t serialpost_raw_serial_encode(const uint8_t saved[16], const uint8_t *waiting, uint64_t waiting_length, uint8_t *form,
-                                      uint64_t form_length);
-uint32_t serialpost_raw_serial_decode(const uint8_t *form, uint64_t length, uint8_t saved[16], uint8_t waiting[1024]);
+uint32_t serialpost4_serial_init(uint8_t regs[16], uint32_t pos[4], uint32_t size);
+uint32_t serialpost4_serial_read(uint8_t regs[16], uint32_t pos[4], const uint8_t ring[1024], uint8_t offset);
+uint32_t serialpost4_serial_write(uint8_t regs[16], uint32_t pos[4], uint8_t ring[1024], uint8_t offset, uint8_t value);
+uint32_t serialpost4_serial_input(uint8_t regs[16], uint32_t pos[4], uint8_t ring[1024], const uint8_t *input,
+                                  uint64_t length);
+uint32_t serialpost4_serial_size(const uint8_t regs[16]);
+uint32_t serialpost4_serial_room(const uint8_t regs[16], const uint32_t pos[4]);
+bool serialpost4_serial_line(const uint8_t regs[16], const uint32_t pos[4]);
+bool serialpost4_serial_play(uint8_t regs[16], uint32_t pos[4], uint8_t ring[1024], const uint8_t *ops,
+                             uint64_t ops_length, const uint8_t *inputs, uint64_t inputs_length, uint32_t *answers,
+                             uint64_t answers_length);
+uint32_t serialpost4_serial_save(const uint8_t regs[16], const uint32_t pos[4], const uint8_t ring[1024],
+                                 uint8_t saved[16], uint8_t waiting[1024]);
+uint32_t serialpost4_serial_restore(uint8_t regs[16], uint32_t pos[4], uint8_t ring[1024], const uint8_t saved[16],
+                                    const uint8_t *waiting, uint64_t length);
+uint32_t serialpost4_serial_encode(const uint8_t saved[16], const uint8_t *waiting, uint64_t waiting_length, uint8_t *form,
+                                   uint64_t form_length);
+uint32_t serialpost4_serial_decode(const uint8_t *form, uint64_t length, uint8_t saved[16], uint8_t waiting[1024]);
 
-void serialpost_raw_clock_init(struct serialpost_clock *clock);
-uint32_t serialpost_raw_clock_read(const struct serialpost_clock *clock, uint16_t offset, uint64_t time, uint8_t bytes[4]);
-uint32_t serialpost_raw_clock_write(struct serialpost_clock *clock, uint16_t offset, uint64_t time, const uint8_t bytes[4]);
-void serialpost_raw_clock_save(const struct serialpost_clock *clock, struct serialpost_clock *saved);
-uint32_t serialpost_raw_clock_restore(struct serialpost_clock *clock, const struct serialpost_clock *saved);
-uint32_t serialpost_raw_clock_encode(const struct serialpost_clock *saved, uint8_t *form, uint64_t length);
-uint32_t serialpost_raw_clock_decode(const uint8_t *form, uint64_t length, struct serialpost_clock *saved);
+void serialpost4_clock_init(struct serialpost_clock *clock);
+uint32_t serialpost4_clock_read(const struct serialpost_clock *clock, uint16_t offset, uint64_t time, uint8_t bytes[4]);
+uint32_t serialpost4_clock_write(struct serialpost_clock *clock, uint16_t offset, uint64_t time, const uint8_t bytes[4]);
+void serialpost4_clock_save(const struct serialpost_clock *clock, struct serialpost_clock *saved);
+uint32_t serialpost4_clock_restore(struct serialpost_clock *clock, const struct serialpost_clock *saved);
+uint32_t serialpost4_clock_encode(const struct serialpost_clock *saved, uint8_t *form, uint64_t length);
+uint32_t serialpost4_clock_decode(const uint8_t *form, uint64_t length, struct serialpost_clock *saved);
 
-void serialpost_raw_serial_counters_init(struct serialpost_serial_counters *counters);
-void serialpost_raw_serial_count(struct serialpost_serial_counters *counters, uint32_t answer);
-void serialpost_raw_serial_lost(struct serialpost_serial_counters *counters);
-void serialpost_raw_clock_counters_init(struct serialpost_clock_counters *counters);
-void serialpost_raw_clock_count_read(struct serialpost_clock_counters *counters, uint32_t answer);
-void serialpost_raw_clock_count_write(struct serialpost_clock_counters *counters, uint32_t answer);
+void serialpost4_serial_counters_init(struct serialpost_serial_counters *counters);
+void serialpost4_serial_count(struct serialpost_serial_counters *counters, uint32_t answer);
+void serialpost4_serial_lost(struct serialpost_serial_counters *counters);
+void serialpost4_clock_counters_init(struct serialpost_clock_counters *counters);
+void serialpost4_clock_count_read(struct serialpost_clock_counters *counters, uint32_t answer);
+void serialpost4_clock_count_write(struct serialpost_clock_counters *counters, uint32_t answer);
 
-uint8_t serialpost_raw_i8042_read(uint8_t offset);
-bool serialpost_raw_i8042_write(uint8_t offset, uint8_t value);
+uint8_t serialpost4_i8042_read(uint8_t offset);
+bool serialpost4_i8042_write(uint8_t offset, uint8_t value);
 
 #ifdef __cplusplus
 }

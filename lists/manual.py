@@ -14,6 +14,7 @@ Beside the answers of docs/REPLAY.md the column knows `not said`, where the manu
 that a reset leaves alone. A serial port's N is 1 where the interrupt pin rises at some moment of the access, else 0; `b T` is
 how many bytes come. `room`, `state`, `save` and `counters` ask the device, `lost` tells it of the host's sink: there is nothing
 like them on a chip, and they have no column. A clock's `w` has no answer, and `now` lets the seconds pass.
+A port of another size is the same chip, whose size is 16.
 
 Exit status: 0 done, or all as told; 1 some file differs; 2 a list cannot be used.
 """
@@ -51,7 +52,7 @@ def little(digits):
 
 # Of each device the accesses with their answers, as patterns, and the line that each is in the crate.
 SERIAL = {
-    r"serial => serial": lambda: "serial",
+    r"serial(?: \d+)? => serial(?: \d+)?": lambda: "serial",
     r"r (..) => r (..) (\d)": lambda at, v, n: f"r 0x{at} 0x{v} {n}",
     r"r (..) => not said": lambda at: f"r? 0x{at}",
     r"r (00|01|07) => as before": lambda at: f"kept (read 0x{at}) (λ c. c .{KEPT[at]})",

@@ -71,8 +71,7 @@ impl Answerer {
             .stdout(Stdio::piped())
             .spawn()
             .map_err(|error| self.trouble(format!("cannot be run: {error}")))?;
-        // No answer is longer than this many times its line: the longest is a full buffer's `state`.
-        let most = 64 * list.len() + 4096;
+        let most = 4096 + asking_lines(list).map(longest_answer).sum::<usize>();
         let printed = talk(&mut child, list, most, limit);
         if printed.is_none() {
             // It may have ended by itself in the meantime: then there is nothing to kill.
@@ -90,6 +89,14 @@ impl Answerer {
             return Err(self.trouble(format!("died ({status}) after {answered} answers{none_to}")));
         }
         Ok(printed)
+    }
+}
+
+/// No answer to a line is longer. A `state` shows the bytes that wait, up to 1,024; so does a `save`.
+fn longest_answer(line: &[u8]) -> usize {
+    match line {
+        b"state" | b"save" => 2200,
+        _ => 200,
     }
 }
 

@@ -16,24 +16,27 @@ pub const MCR: usize = 6;
 pub const MSR: usize = 7;
 pub const SCR: usize = 8;
 
-/// The serial port's nine registers in the order of the `state` answer, and the bytes that wait to be
-/// read, first in front.
+/// The serial port's nine registers in the order of the `state` answer, the bytes that wait to be read, first
+/// in front, and how many can. An answer does not tell the last.
 #[derive(Clone, Debug, PartialEq, Eq, Hash)]
 pub struct SerialState {
     pub registers: [u8; 9],
     pub buffer: Vec<u8>,
+    pub size: usize,
 }
 
 impl SerialState {
-    /// How many bytes can wait.
+    /// How many bytes can wait where nothing else is said, as in vm-superio.
     pub const SIZE: usize = 64;
+    /// The sizes with which a port of ours is made.
+    pub const SIZES: [usize; 7] = [16, 32, Self::SIZE, 128, 256, 512, 1024];
 
     pub fn waits(&self) -> bool {
         !self.buffer.is_empty()
     }
 
     pub fn room(&self) -> usize {
-        Self::SIZE.saturating_sub(self.buffer.len())
+        self.size.saturating_sub(self.buffer.len())
     }
 
     pub fn divisor_is_open(&self) -> bool {
@@ -78,7 +81,8 @@ pub trait Serial {
     fn input(&mut self, bytes: &[u8]) -> (Option<usize>, Raised);
     fn room(&self) -> usize;
     fn state(&self) -> SerialState;
-    /// Brings a state back, or answers none if it is refused because more bytes wait than there is room for.
+    /// Brings a state back, and its size with it, or answers none if it is refused because more bytes wait than
+    /// its size.
     fn restore(&mut self, state: &SerialState) -> Option<Raised>;
     /// Whether the interrupt line is high. The original cannot tell.
     fn line(&self) -> Option<bool> {
@@ -113,6 +117,10 @@ pub trait I8042 {
 /// Makes fresh devices.
 pub trait Devices {
     fn serial(&mut self) -> Box<dyn Serial>;
+    /// A port of this size, which is one of the seven. vm-superio has none.
+    fn serial_of(&mut self, _size: usize) -> Option<Box<dyn Serial>> {
+        None
+    }
     fn clock(&mut self) -> Box<dyn Clock>;
     fn i8042(&mut self) -> Box<dyn I8042>;
 }

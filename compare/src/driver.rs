@@ -39,6 +39,13 @@ impl<D: Devices> Driver<D> {
         }
     }
 
+    /// Brings a state back into the serial port, if that is the current device. Nobody is answered.
+    pub fn put_port(&mut self, state: &SerialState) {
+        if let Current::Serial(port) = &mut self.current {
+            port.restore(state);
+        }
+    }
+
     /// The state of the clock and its time, if that is the current device.
     pub fn clock(&self) -> Option<(ClockState, u64)> {
         match &self.current {
@@ -80,6 +87,10 @@ impl<D: Devices> Driver<D> {
                 Device::I8042 => Current::I8042(self.devices.i8042()),
             };
             return Some(Words::start(device.word()));
+        }
+        if let StartOf(size) = operation {
+            self.current = Current::Serial(self.devices.serial_of(*size)?);
+            return Some(Words::start("serial").number(*size));
         }
         match &mut self.current {
             Current::None => None,

@@ -74,6 +74,27 @@ pub const FAULTS: [(Option<Device>, &str, &str); 53] = [
     (None, "made-up-is-kept", "a state that a line gives is kept, too"),
 ];
 
+/// The same of a port's size, which vm-superio's has not. Those of the usual size show beside it all the same.
+#[rustfmt::skip]
+pub const SIZE_FAULTS: [(&str, &str); 16] = [
+    ("64-holds-63", "63 bytes can wait in a port of 64"),
+    ("64-holds-65", "65 bytes can wait in a port of 64"),
+    ("16-holds-64", "64 bytes can wait in a port of 16"),
+    ("1024-holds-1023", "1,023 bytes can wait in a port of 1,024"),
+    ("wraps-at-64", "in a port of 1,024 a byte lies where the one 64 before it lay"),
+    ("loop-holds-64", "in loopback the 65th byte is dropped, whatever the size"),
+    ("makes-48", "`serial 48` makes a port"),
+    ("makes-low-half", "of the number behind `serial` the lower 16 bits count"),
+    ("refusal-makes", "a size that is refused makes a port of the usual one"),
+    ("size-not-answered", "a port with a size is answered `serial`"),
+    ("fresh-port-keeps-size", "`serial` makes a port of the size that the one before had"),
+    ("restore-forgets-size", "a port that is brought back has the usual size"),
+    ("restore-keeps-size", "a port that is brought back has the size that the one before had"),
+    ("given-keeps-size", "a state that a line gives has the size that the port had before"),
+    ("restore-refuses-65", "a saved port with 65 bytes is refused, whatever its size"),
+    ("reached-of-64", "a port with another size than 64 is not said to be reached"),
+];
+
 /// Answers a whole list with a fault in it.
 pub fn answers(fault: &str, mut list: Vec<u8>) -> Vec<u8> {
     if fault == "reads-upper-case" {
@@ -88,7 +109,14 @@ pub fn answers(fault: &str, mut list: Vec<u8>) -> Vec<u8> {
         }
         let before = driver.port();
         let counted = miscount.shown(&driver);
-        let answer = driver.answer(line);
+        let answer = match misheard(fault, line) {
+            None => driver.answer(line),
+            Some(size) => {
+                driver.answer(format!("serial {size}").as_bytes());
+                let answer = if fault == "refusal-makes" { b"?" } else { line };
+                [answer, b"\n"].concat()
+            }
+        };
         answers.extend(match parse(line) {
             Some(asked) if answer != b"?\n" => {
                 let answer = String::from_utf8_lossy(&answer).into_owned();
@@ -109,6 +137,21 @@ pub fn answers(fault: &str, mut list: Vec<u8>) -> Vec<u8> {
         });
     }
     answers
+}
+
+/// The size of the port that a line makes and should not.
+fn misheard(fault: &str, line: &[u8]) -> Option<usize> {
+    let digits = std::str::from_utf8(line).ok()?.strip_prefix("serial ")?;
+    let low_half = digits.parse::<usize>().map(|number| number % 0x1_0000);
+    match fault {
+        _ if is_start(line) => None,
+        "makes-48" if digits == "48" => Some(64),
+        "makes-low-half" => low_half
+            .ok()
+            .filter(|size| SerialState::SIZES.contains(size)),
+        "refusal-makes" => Some(64),
+        _ => None,
+    }
 }
 
 /// How much more is shown than was counted, or less.
@@ -148,7 +191,7 @@ impl Miscount {
         let is_port = driver.port().is_some();
         let of_device = |port, clock| done.fault == if is_port { port } else { clock };
         match &done.asked {
-            Start(_) => {
+            Start(_) | StartOf(_) => {
                 let same = driver
                     .counters()
                     .is_some_and(|fresh| fresh.len() == counted.len());
@@ -206,16 +249,17 @@ struct Answered<'a> {
 impl Answered<'_> {
     /// The answer with the fault in it. So is the device's state from here on.
     fn spoiled(mut self, driver: &mut Driver<Account>, before: Option<SerialState>) -> String {
-        let restore = Words::start("restore");
         if let Some(state) = driver.port() {
-            let spoiled = self.port(before.as_ref().unwrap_or(&state), state.clone());
+            let before = before.as_ref().unwrap_or(&state);
+            let spoiled = self.port(before, state.clone());
+            let spoiled = self.sized(before, spoiled);
             if spoiled != state {
-                driver.answer(&restore.registers(&spoiled).waiting(&spoiled).0);
+                driver.put_port(&spoiled);
             }
         } else if let Some((state, now)) = driver.clock() {
             let spoiled = self.clock(state, now);
             if spoiled != state {
-                driver.answer(&restore.clock(&spoiled).0);
+                driver.answer(&Words::start("restore").clock(&spoiled).0);
             }
         } else {
             self.i8042();
@@ -253,14 +297,15 @@ impl Answered<'_> {
             ("byte-65-replaces", WriteByte(0, value))
                 if is_data && before.loops() && before.room() == 0 =>
             {
-                after.buffer[63] = *value;
+                after.buffer.pop();
+                after.buffer.push(*value);
             }
             ("data-ready-stays", ReadByte(_)) => is[LSR] = was[LSR],
             ("data-ready-goes-early", ReadByte(0)) if is_data => is[LSR] &= !LSR_DATA_READY,
             ("empty-input-raises", Input(bytes)) if bytes.is_empty() => self.raises(1),
             ("full-takes-none", Input(_)) => self.not("full", "0"),
             ("wires-swapped", ReadByte(6)) if before.loops() => self.swaps_wires(),
-            ("fresh-port-remembers", Start(_)) => is[SCR] = was[SCR],
+            ("fresh-port-remembers", Start(_) | StartOf(_)) => is[SCR] = was[SCR],
             ("raises-again", Input(_)) if received && before.buffer.len() < after.buffer.len() => {
                 self.raises(1)
             }
@@ -300,6 +345,41 @@ impl Answered<'_> {
                 self.says("restore 0 unreached");
             }
             (_, asked) if asked.brings_back() => self.brought_back(&mut after),
+            _ => {}
+        }
+        after
+    }
+
+    /// The port with a fault of its size.
+    fn sized(&mut self, before: &SerialState, mut after: SerialState) -> SerialState {
+        let comes = after.buffer.len() > before.buffer.len();
+        let fits = |size: usize| after.buffer.len() <= size;
+        match (self.fault, &self.asked) {
+            ("wraps-at-64", WriteByte(..) | Input(_)) if after.size == 1024 && comes => {
+                for place in (64..after.buffer.len()).rev() {
+                    after.buffer[place - 64] = after.buffer[place];
+                }
+            }
+            ("loop-holds-64", WriteByte(..)) if comes && !fits(64) => drop(after.buffer.pop()),
+            ("size-not-answered", StartOf(_)) => self.says("serial"),
+            ("fresh-port-keeps-size", Start(_)) => after.size = before.size,
+            ("restore-forgets-size", Restore) if fits(64) => after.size = 64,
+            ("restore-keeps-size", Restore) if fits(before.size) => after.size = before.size,
+            ("given-keeps-size", RestoreSerial(_)) if fits(before.size) => after.size = before.size,
+            ("restore-refuses-65", Restore) if !fits(64) => {
+                self.says("restore full");
+                after = before.clone();
+            }
+            ("reached-of-64", Restore) if after.size != 64 => self.not(" reached", " unreached"),
+            (fault, asked) if asked.brings_back() || matches!(asked, Start(_) | StartOf(_)) => {
+                after.size = match (fault, after.size) {
+                    ("64-holds-63", 64) => 63,
+                    ("64-holds-65", 64) => 65,
+                    ("16-holds-64", 16) => 64,
+                    ("1024-holds-1023", 1024) => 1023,
+                    (_, size) => size,
+                }
+            }
             _ => {}
         }
         after

@@ -30,6 +30,8 @@ impl Device {
 #[derive(Clone, Debug, PartialEq, Eq)]
 pub enum Operation {
     Start(Device),
+    /// A serial port of this size.
+    StartOf(usize),
     WriteByte(u8, u8),
     ReadByte(u8),
     Input(Vec<u8>),
@@ -68,7 +70,7 @@ pub fn asking_lines(list: &[u8]) -> impl Iterator<Item = &[u8]> {
 
 /// Whether a line starts a fresh device.
 pub fn is_start(line: &[u8]) -> bool {
-    matches!(parse(line), Some(Start(_)))
+    matches!(parse(line), Some(Start(_) | StartOf(_)))
 }
 
 /// The operation that a line asks for, or none if the line is malformed.
@@ -84,6 +86,7 @@ pub fn parse(line: &[u8]) -> Option<Operation> {
     }
     let operation = match words[..count] {
         [b"serial"] => Start(Device::Serial),
+        [b"serial", digits] => StartOf(size(digits)?),
         [b"clock"] => Start(Device::Clock),
         [b"i8042"] => Start(Device::I8042),
         [b"room"] => Room,
@@ -113,6 +116,7 @@ pub fn parse(line: &[u8]) -> Option<Operation> {
                 b"-" => Vec::new(),
                 digits => some_bytes(digits)?,
             },
+            size: SerialState::SIZE,
         }),
         _ => return None,
     };
@@ -155,6 +159,12 @@ fn each_a_byte(words: &[&[u8]]) -> Option<[u8; 9]> {
 fn some_bytes(digits: &[u8]) -> Option<Vec<u8>> {
     let values: Option<Vec<u8>> = digits.chunks(2).map(byte).collect();
     values.filter(|values| !values.is_empty())
+}
+
+/// One of the sizes of a port, as it is usually written.
+fn size(digits: &[u8]) -> Option<usize> {
+    let mut sizes = SerialState::SIZES.into_iter();
+    sizes.find(|size| size.to_string().as_bytes() == digits)
 }
 
 /// One decimal digit or more, leading zeros allowed, for a number below 2^64.
@@ -244,6 +254,7 @@ mod tests {
         for lines in [
             malformed::LINES,
             malformed::SAVES,
+            malformed::SIZES,
             malformed::ABOUT_THE_LINE,
             malformed::ABOUT_COUNTERS,
         ] {
@@ -263,6 +274,7 @@ mod tests {
         let port = SerialState {
             registers: [1, 2, 3, 4, 5, 6, 7, 8, 9],
             buffer: vec![0x0a, 0x0b],
+            size: SerialState::SIZE,
         };
         let line = b"restore 01 02 03 04 05 06 07 08 09 0a0b";
         let written = Words::start("restore").registers(&port).waiting(&port);
@@ -278,6 +290,16 @@ mod tests {
         let line = b"restore 00000001 fffffffffffffffe 00000003 00000004 00000005";
         assert_eq!(Words::start("restore").clock(&clock).0, line);
         assert_eq!(parse(line), Some(RestoreClock(clock)));
+    }
+
+    #[test]
+    fn a_port_is_made_with_seven_sizes_and_no_others() {
+        for number in 0..=2048 {
+            let made = SerialState::SIZES.contains(&number);
+            let expected = made.then_some(StartOf(number));
+            assert_eq!(parse(format!("serial {number}").as_bytes()), expected);
+            assert_eq!(parse(format!("serial 0{number}").as_bytes()), None);
+        }
     }
 
     #[test]

@@ -11,10 +11,10 @@ use std::time::Duration;
 
 use judge::answerer::{tools, Answerer};
 use judge::difference::{Difference, Pair};
-use judge::faulty::FAULTS;
-use judge::format::{asking_lines, Device};
+use judge::faulty::{FAULTS, SIZE_FAULTS};
+use judge::format::{asking_lines, parse, Device, Operation};
 use judge::generate::numbers::Numbers;
-use judge::generate::{exhaustive, format_cases, random, Options};
+use judge::generate::{exhaustive, format_cases, random, sizes, Options};
 use judge::rows::Sides;
 
 /// A file of its own for a test, with this text in it.
@@ -99,6 +99,22 @@ fn the_exhaustive_lists_find_every_planted_fault_of_their_device() {
 }
 
 #[test]
+fn lists_with_ports_of_all_sizes_find_every_planted_fault_of_a_size() {
+    let options = Options {
+        devices: vec![Device::Serial],
+        sizes: true,
+        ..Options::default()
+    };
+    let random = random::list(&options, 40_000, 1);
+    assert!(difference("account", "account", &random).is_none());
+    let all = sizes::list(&Options::default());
+    for (fault, _) in SIZE_FAULTS {
+        is_found_in(&random, fault);
+        is_found_in(&all, fault);
+    }
+}
+
+#[test]
 fn beside_the_original_a_fault_is_a_difference_in_no_row_or_none_in_a_row() {
     let both_kinds = b"serial\nw 01 03\nb 61\nr 02\n";
     for same in ["account", "account --original"] {
@@ -122,6 +138,13 @@ fn beside_the_original_a_fault_is_a_difference_in_no_row_or_none_in_a_row() {
         let is_told = !["reached-without-byte", "reached-disabled"].contains(&fault);
         let is_found = beside(&format!("faulty {fault}")).is_some();
         assert_eq!(is_found, is_told, "{fault}");
+    }
+    // It is never asked for a size, so that only the usual one can be wrong.
+    assert!(!asking_lines(&list).any(|line| matches!(parse(line), Some(Operation::StartOf(_)))));
+    for (fault, _) in SIZE_FAULTS {
+        let is_usual = ["64-holds-63", "64-holds-65"].contains(&fault);
+        let is_found = beside(&format!("faulty {fault}")).is_some();
+        assert_eq!(is_found, is_usual, "{fault}");
     }
 }
 

@@ -15,6 +15,7 @@
 #define POS sizeof(((struct serialpost_serial *)0)->pos)
 #define RING sizeof(((struct serialpost_serial *)0)->ring)
 #define FIRST_SPARE 9
+#define SIZE 15
 #define PARTS(port) (port)->regs, (port)->pos, (port)->ring
 
 struct port {
@@ -30,14 +31,39 @@ static struct port fenced_port(bool at_end)
     return port;
 }
 
-/* The ring gets only some new bytes each time, to be quick. The first waiting byte often lies near its end. */
+/* The size that register 15 tells. A port is made with a power of two from 16 to 1,024. */
+static uint32_t size_in(const uint8_t *regs)
+{
+    return (63 + 4 * (uint32_t)regs[SIZE]) % 1024 + 1;
+}
+
+static bool is_made(uint32_t size)
+{
+    return size >= 16 && size <= 1024 && (size & (size - 1)) == 0;
+}
+
+static uint32_t any_made(void)
+{
+    return 16u << any() % 7;
+}
+
+static uint8_t register_for(uint32_t size)
+{
+    return (uint8_t)((size - 64) / 4);
+}
+
+/* The ring gets only some new bytes each time, to be quick. The first waiting byte often lies near its end, and as many
+ * wait as the size says, or nearly. */
 static void any_state(struct port port)
 {
     any_bytes(port.regs, REGS);
     any_bytes(port.pos, POS);
     any_bytes(port.ring + any() % 16 * 64, 64);
+    if (once_in(2))
+        port.regs[SIZE] = register_for(any_made());
+    uint32_t size = size_in(port.regs);
     if (!once_in(4))
-        port.pos[1] %= 67;
+        port.pos[1] = once_in(2) ? size - 2 + any() % 5 : port.pos[1] % size;
     if (once_in(4))
         port.pos[0] = port.pos[0] / RING * RING + RING - port.pos[0] % 70;
 }
@@ -57,6 +83,7 @@ static bool is(struct port port, const struct serialpost_serial *other)
            && memcmp(port.ring, other->ring, RING) == 0;
 }
 
+/* And so is the size. */
 static bool spares_kept(struct port port, const struct serialpost_serial *before)
 {
     return memcmp(port.regs + FIRST_SPARE, before->regs + FIRST_SPARE, REGS - FIRST_SPARE) == 0
@@ -65,7 +92,7 @@ static bool spares_kept(struct port port, const struct serialpost_serial *before
 
 static bool spares_zero(const uint8_t *regs)
 {
-    static const uint8_t zero[REGS - FIRST_SPARE];
+    static const uint8_t zero[SIZE - FIRST_SPARE];
     return memcmp(regs + FIRST_SPARE, zero, sizeof zero) == 0;
 }
 
@@ -86,7 +113,7 @@ static void expect_raises(uint32_t answer, struct port port, const struct serial
     bool data = has_data(port.regs, port.pos), empty = is_empty(port.regs);
     bool new_data = data && !has_data(before->regs, before->pos), new_empty = empty && !is_empty(before->regs);
     EXPECT(answer / SERIALPOST_WORD_RAISE == (uint32_t)new_data + new_empty);
-    EXPECT(serialpost_raw_serial_line(port.regs, port.pos) == (data || empty));
+    EXPECT(serialpost4_serial_line(port.regs, port.pos) == (data || empty));
 }
 
 static uint8_t any_offset(void)
@@ -115,7 +142,7 @@ static uint32_t told_of_write(const struct serialpost_serial *before, uint8_t of
     if (!is_data(before, offset))
         return 0;
     if (before->regs[SERIALPOST_MCR] & 0x10)
-        return before->pos[1] < 64 ? SERIALPOST_WORD_LOOPED : SERIALPOST_WORD_DROPPED;
+        return before->pos[1] < size_in(before->regs) ? SERIALPOST_WORD_LOOPED : SERIALPOST_WORD_DROPPED;
     return SERIALPOST_WORD_SENDS | value;
 }
 
@@ -123,7 +150,7 @@ static void any_read(struct port port)
 {
     struct serialpost_serial before = copy(port);
     uint8_t offset = any_offset();
-    uint32_t answer = serialpost_raw_serial_read(PARTS(&port), offset);
+    uint32_t answer = serialpost4_serial_read(PARTS(&port), offset);
     EXPECT(answer - (uint8_t)answer == told_of_read(&before, offset));
     uint8_t code = has_data(before.regs, before.pos) ? 0x04 : is_empty(before.regs) ? 0x02 : 0x01;
     EXPECT(offset != SERIALPOST_IIR || answer == (0xc0u | code));
@@ -137,7 +164,7 @@ static void any_write(struct port port)
     struct serialpost_serial before = copy(port);
     uint8_t offset = any_offset();
     uint8_t value = (uint8_t)any();
-    uint32_t answer = serialpost_raw_serial_write(PARTS(&port), offset, value);
+    uint32_t answer = serialpost4_serial_write(PARTS(&port), offset, value);
     expect_raises(answer, port, &before);
     EXPECT(answer % SERIALPOST_WORD_RAISE == told_of_write(&before, offset, value));
     EXPECT(spares_kept(port, &before));
@@ -147,13 +174,13 @@ static void any_write(struct port port)
 static void any_input(struct port port, struct fenced input)
 {
     struct serialpost_serial before = copy(port);
-    size_t length = any() % 200;
-    uint32_t room = serialpost_raw_serial_room(port.pos);
-    uint32_t answer = serialpost_raw_serial_input(PARTS(&port), lent(input, length), length);
+    size_t length = any() % (once_in(4) ? 1100 : 200);
+    uint32_t room = serialpost4_serial_room(port.regs, port.pos);
+    uint32_t answer = serialpost4_serial_input(PARTS(&port), lent(input, length), length);
     uint32_t taken = answer & SERIALPOST_WORD_NUMBER;
-    EXPECT(taken <= room && taken <= length);
+    EXPECT(taken == 0 || taken == (room < length ? room : length));
     expect_raises(answer, port, &before);
-    EXPECT(serialpost_raw_serial_room(port.pos) == room - taken);
+    EXPECT(serialpost4_serial_room(port.regs, port.pos) == room - taken);
     EXPECT(answer % SERIALPOST_WORD_RAISE == taken || (room == 0 && answer == SERIALPOST_WORD_REFUSED));
     EXPECT(spares_kept(port, &before));
     EXPECT(taken > 0 || is(port, &before));
@@ -167,35 +194,41 @@ static void any_save(struct port port, struct port kept)
     any_bytes(kept.regs, REGS);
     any_bytes(kept.ring, 70);
     memcpy(waiting, kept.ring, RING);
-    uint32_t count = serialpost_raw_serial_save(PARTS(&port), kept.regs, kept.ring);
-    EXPECT(count == 64 - serialpost_raw_serial_room(port.pos));
+    uint32_t count = serialpost4_serial_save(PARTS(&port), kept.regs, kept.ring);
+    EXPECT(count == (port.pos[1] < RING ? port.pos[1] : RING));
     for (uint32_t i = 0; i < count; i++)
         waiting[i] = port.ring[(port.pos[0] + i) % RING];
     EXPECT(is(port, &before) && memcmp(kept.regs, port.regs, REGS) == 0 && memcmp(kept.ring, waiting, RING) == 0);
 }
 
-/* Registers to be restored: any, or half of the time such as a run may leave where `length` bytes wait, or nearly. */
-static void any_saved(uint8_t *regs, size_t length)
+/* Registers to be restored: any, or half of the time such as a run may leave, or nearly. Answers how many bytes are to
+ * wait: no more than the size, or one more. */
+static size_t any_saved(uint8_t *regs)
 {
     any_bytes(regs, REGS);
+    if (!once_in(4))
+        regs[SIZE] = register_for(any_made());
+    size_t length = once_in(2) ? any() % 4 : size_in(regs) - 3 + any() % 5;
     if (once_in(2))
-        return;
+        return length;
     regs[SERIALPOST_IER] &= 0x0f;
     regs[SERIALPOST_IIR] = once_in(2) ? 0x01 : (uint8_t)(any() % 4 * 2);
     regs[SERIALPOST_LSR] = length == 0 ? 0x60 : 0x61;
     regs[SERIALPOST_MSR] = 0xb0;
-    memset(regs + FIRST_SPARE, 0, REGS - FIRST_SPARE);
+    memset(regs + FIRST_SPARE, 0, SIZE - FIRST_SPARE);
     if (once_in(4))
         regs[any() % REGS] ^= (uint8_t)(1 << any() % 8);
+    return length;
 }
 
-/* Whether a run comes to these registers while `length` bytes wait: crates/runs/specs/Reachable.antt. No run sets a
- * spare one. */
+/* Whether a run comes to these registers while `length` bytes wait, no more than the size: crates/runs/specs/Reachable.antt.
+ * No run sets a spare one. */
 static bool run_leaves_port(const uint8_t *regs, size_t length)
 {
     uint8_t active = ((regs[SERIALPOST_IER] & 0x01) && length > 0 ? 0x04 : 0) | (is_empty(regs) ? 0x02 : 0);
     return regs[SERIALPOST_IER] < 16 && regs[SERIALPOST_IIR] == (active ? active : 0x01)
-           && regs[SERIALPOST_LSR] == (length > 0 ? 0x61 : 0x60) && regs[SERIALPOST_MSR] == 0xb0 && spares_zero(regs);
+           && regs[SERIALPOST_LSR] == (length > 0 ? 0x61 : 0x60) && regs[SERIALPOST_MSR] == 0xb0 && spares_zero(regs)
+           && is_made(size_in(regs));
 }
 
 /* Restores a port. Answers whether a run could have come to it. */
@@ -203,23 +236,38 @@ static bool any_restore(struct port port, struct port kept, struct fenced input)
 {
     struct serialpost_serial before = copy(port);
     struct serialpost_serial_saved again;
-    size_t length = any() % 70;
-    uint8_t *waiting = lent(input, length), *regs = kept.regs;
+    uint8_t *regs = kept.regs;
+    size_t length = any_saved(regs);
+    uint8_t *waiting = lent(input, length);
     any_bytes(waiting, length);
-    any_saved(regs, length);
-    uint32_t answer = serialpost_raw_serial_restore(PARTS(&port), regs, waiting, length);
-    if (length > 64) {
+    uint32_t answer = serialpost4_serial_restore(PARTS(&port), regs, waiting, length);
+    if (length > size_in(regs)) {
         EXPECT(answer == SERIALPOST_WORD_REFUSED && is(port, &before));
         return false;
     }
     uint32_t raises = (uint32_t)has_data(port.regs, port.pos) + is_empty(port.regs);
     bool reached = run_leaves_port(regs, length);
     EXPECT(answer == raises * SERIALPOST_WORD_RAISE + (reached ? SERIALPOST_WORD_REACHABLE : 0));
-    EXPECT(serialpost_raw_serial_line(port.regs, port.pos) == (raises > 0));
+    EXPECT(serialpost4_serial_line(port.regs, port.pos) == (raises > 0));
     EXPECT(memcmp(port.regs, regs, REGS) == 0 && port.pos[2] == before.pos[2] && port.pos[3] == before.pos[3]);
-    EXPECT(serialpost_raw_serial_save(PARTS(&port), again.regs, again.waiting) == length);
+    EXPECT(serialpost4_serial_save(PARTS(&port), again.regs, again.waiting) == length);
     EXPECT(memcmp(again.regs, regs, REGS) == 0 && memcmp(again.waiting, waiting, length) == 0);
     return reached;
+}
+
+/* Makes a port of one of the seven sizes, or of another, which is refused. */
+static void any_init(struct port port)
+{
+    struct serialpost_serial before = copy(port);
+    uint32_t size = once_in(2) ? any_made() : once_in(2) ? any() : any() % 2100;
+    uint32_t answer = serialpost4_serial_init(port.regs, port.pos, size);
+    if (!is_made(size)) {
+        EXPECT(answer == SERIALPOST_WORD_REFUSED && is(port, &before));
+        return;
+    }
+    EXPECT(answer == 0 && serialpost4_serial_size(port.regs) == size && serialpost4_serial_room(port.regs, port.pos) == size);
+    EXPECT(spares_zero(port.regs) && port.pos[2] == 0 && port.pos[3] == 0);
+    EXPECT(port.regs[SIZE] == register_for(size) && memcmp(port.ring, before.ring, RING) == 0);
 }
 
 static void any_access(bool at_end)
@@ -229,7 +277,9 @@ static void any_access(bool at_end)
     int reached = 0;
     for (int round = 0; round < ROUNDS; round++) {
         any_state(port);
-        EXPECT(serialpost_raw_serial_room(port.pos) == (port.pos[1] < 64 ? 64 - port.pos[1] : 0));
+        uint32_t size = size_in(port.regs);
+        EXPECT(serialpost4_serial_size(port.regs) == size);
+        EXPECT(serialpost4_serial_room(port.regs, port.pos) == (port.pos[1] < size ? size - port.pos[1] : 0));
         switch (any() % 5) {
         case 0:
             any_read(port);
@@ -247,18 +297,22 @@ static void any_access(bool at_end)
             reached += any_restore(port, kept, input);
             break;
         }
-        if (once_in(100)) {
-            serialpost_raw_serial_init(port.regs, port.pos);
-            EXPECT(serialpost_raw_serial_room(port.pos) == 64);
-            EXPECT(spares_zero(port.regs) && port.pos[2] == 0 && port.pos[3] == 0);
-        }
+        if (once_in(20))
+            any_init(port);
     }
     EXPECT(reached > ROUNDS / 50 && reached < ROUNDS / 10);
 }
 
 /* ---- Runs */
 
-/* Writes a run of so many operations, seldom with a kind that there is not. Answers how many bytes its inputs have. */
+/* How many bytes an operation takes from the inputs. */
+static size_t input_of(const uint8_t *op)
+{
+    return op[0] == 2 ? op[1] + 256u * op[2] : 0;
+}
+
+/* Writes a run of so many operations, seldom with a kind that there is not. Answers how many bytes its inputs have, which
+ * fit a page. */
 static size_t any_run(uint8_t *ops, size_t operations)
 {
     size_t bytes = 0;
@@ -267,8 +321,8 @@ static size_t any_run(uint8_t *ops, size_t operations)
         op[0] = (uint8_t)(once_in(100) ? any() : any() % 4);
         if (op[0] == 2) {
             op[1] %= 70;
-            op[2] = 0;
-            bytes += op[1];
+            op[2] = (uint8_t)(bytes < 1500 && once_in(8) ? any() % 5 : 0);
+            bytes += input_of(op);
         }
     }
     return bytes;
@@ -279,13 +333,13 @@ static uint32_t by_itself(struct serialpost_serial *port, const uint8_t *op, con
 {
     switch (op[0]) {
     case 0:
-        return serialpost_raw_serial_read(PARTS(port), op[1]);
+        return serialpost4_serial_read(PARTS(port), op[1]);
     case 1:
-        return serialpost_raw_serial_write(PARTS(port), op[1], op[2]);
+        return serialpost4_serial_write(PARTS(port), op[1], op[2]);
     case 2:
-        return serialpost_raw_serial_input(PARTS(port), input, op[1]);
+        return serialpost4_serial_input(PARTS(port), input, input_of(op));
     default:
-        return serialpost_raw_serial_room(port->pos);
+        return serialpost4_serial_room(port->regs, port->pos);
     }
 }
 
@@ -305,10 +359,10 @@ static void any_play(bool at_end)
         memcpy(before, words, room * sizeof *words);
         any_state(port);
         struct serialpost_serial before_run = copy(port), same = before_run;
-        if (serialpost_raw_serial_play(PARTS(&port), run, 3 * operations + cut, input, length, words, room)) {
+        if (serialpost4_serial_play(PARTS(&port), run, 3 * operations + cut, input, length, words, room)) {
             for (size_t i = 0; i < operations; i++) {
                 EXPECT(words[i] == by_itself(&same, run + 3 * i, input));
-                input += run[3 * i] == 2 ? run[3 * i + 1] : 0;
+                input += input_of(run + 3 * i);
                 before[i] = words[i];
             }
             played++;
@@ -344,8 +398,8 @@ static void any_clock(bool at_end)
         memcpy(bytes_before, bytes, 4);
         uint64_t time = (uint64_t)any() << 40 ^ any();
         bool reads = once_in(2);
-        uint32_t answer = reads ? serialpost_raw_clock_read(clock, any_clock_offset(), time, bytes)
-                                : serialpost_raw_clock_write(clock, any_clock_offset(), time, bytes);
+        uint32_t answer = reads ? serialpost4_clock_read(clock, any_clock_offset(), time, bytes)
+                                : serialpost4_clock_write(clock, any_clock_offset(), time, bytes);
         EXPECT(answer == 0 || answer == SERIALPOST_WORD_REFUSED);
         EXPECT(clock->spare[0] == before.spare[0] && clock->spare[1] == before.spare[1]);
         bool valid = answer == 0;
@@ -353,7 +407,7 @@ static void any_clock(bool at_end)
         EXPECT((valid && reads) || memcmp(bytes, bytes_before, 4) == 0);
         if (once_in(100)) {
             static const struct serialpost_clock fresh;
-            serialpost_raw_clock_init(clock);
+            serialpost4_clock_init(clock);
             EXPECT(memcmp(clock, &fresh, sizeof fresh) == 0);
         }
     }
@@ -379,11 +433,11 @@ static void any_saved_clock(bool at_end)
         if (once_in(8))
             saved->spare[any() % 2] = any();
         before = *saved;
-        EXPECT(serialpost_raw_clock_restore(clock, saved) == (run_leaves_clock(&before) ? SERIALPOST_WORD_REACHABLE : 0));
+        EXPECT(serialpost4_clock_restore(clock, saved) == (run_leaves_clock(&before) ? SERIALPOST_WORD_REACHABLE : 0));
         reached += run_leaves_clock(&before);
         EXPECT(memcmp(clock, &before, sizeof before) == 0 && memcmp(saved, &before, sizeof before) == 0);
         any_bytes(saved, sizeof *saved);
-        serialpost_raw_clock_save(clock, saved);
+        serialpost4_clock_save(clock, saved);
         EXPECT(memcmp(clock, &before, sizeof before) == 0 && memcmp(saved, &before, sizeof before) == 0);
     }
     EXPECT(reached > ROUNDS / 50 && reached < ROUNDS / 4);
@@ -410,10 +464,10 @@ static void any_serial_counters(bool at_end)
         *counters = expected;
         uint32_t word = any();
         if (once_in(4)) {
-            serialpost_raw_serial_lost(counters);
+            serialpost4_serial_lost(counters);
             expected.lost = counted(expected.lost, true);
         } else {
-            serialpost_raw_serial_count(counters, word);
+            serialpost4_serial_count(counters, word);
             expected.data_reads = counted(expected.data_reads, (word & SERIALPOST_WORD_DATA_READ) != 0);
             expected.sent = counted(expected.sent, (word & SERIALPOST_WORD_SENDS) != 0);
             expected.none_left = counted(expected.none_left, (word & SERIALPOST_WORD_NONE_LEFT) != 0);
@@ -421,7 +475,7 @@ static void any_serial_counters(bool at_end)
         EXPECT(memcmp(counters, &expected, sizeof expected) == 0);
         if (once_in(100)) {
             static const struct serialpost_serial_counters fresh;
-            serialpost_raw_serial_counters_init(counters);
+            serialpost4_serial_counters_init(counters);
             EXPECT(memcmp(counters, &fresh, sizeof fresh) == 0);
         }
     }
@@ -436,16 +490,16 @@ static void any_clock_counters(bool at_end)
         uint32_t word = any();
         bool refused = (word & SERIALPOST_WORD_REFUSED) != 0;
         if (once_in(2)) {
-            serialpost_raw_clock_count_read(counters, word);
+            serialpost4_clock_count_read(counters, word);
             expected.invalid_reads = counted(expected.invalid_reads, refused);
         } else {
-            serialpost_raw_clock_count_write(counters, word);
+            serialpost4_clock_count_write(counters, word);
             expected.invalid_writes = counted(expected.invalid_writes, refused);
         }
         EXPECT(memcmp(counters, &expected, sizeof expected) == 0);
         if (once_in(100)) {
             static const struct serialpost_clock_counters fresh;
-            serialpost_raw_clock_counters_init(counters);
+            serialpost4_clock_counters_init(counters);
             EXPECT(memcmp(counters, &fresh, sizeof fresh) == 0);
         }
     }

@@ -70,7 +70,7 @@ static uint32_t own_serial_size(const void *saved, size_t count)
     const uint8_t *regs = saved;
     if (count > 64)
         return REASON(4);
-    for (size_t i = 9; i < 16; i++)
+    for (size_t i = 9; i < 16; i++) /* the spare ones, and that of the size, which is 0 for 64 */
         if (regs[i] != 0)
             return REASON(6);
     return 13 + (uint32_t)count;
@@ -94,24 +94,24 @@ static bool is_refused(uint32_t word)
 
 static uint32_t read_serial(const uint8_t *form, size_t length, void *saved, uint8_t *waiting)
 {
-    return serialpost_raw_serial_decode(form, length, saved, waiting);
+    return serialpost4_serial_decode(form, length, saved, waiting);
 }
 
 static uint32_t write_serial(const void *saved, const uint8_t *waiting, size_t count, uint8_t *form, size_t length)
 {
-    return serialpost_raw_serial_encode(saved, waiting, count, form, length);
+    return serialpost4_serial_encode(saved, waiting, count, form, length);
 }
 
 static uint32_t read_clock(const uint8_t *form, size_t length, void *saved, uint8_t *waiting)
 {
     (void)waiting;
-    return serialpost_raw_clock_decode(form, length, saved);
+    return serialpost4_clock_decode(form, length, saved);
 }
 
 static uint32_t write_clock(const void *saved, const uint8_t *waiting, size_t count, uint8_t *form, size_t length)
 {
     (void)waiting, (void)count;
-    return serialpost_raw_clock_encode(saved, form, length);
+    return serialpost4_clock_encode(saved, form, length);
 }
 
 /* A device's forms. What is saved are `saved_size` bytes and, of a serial port, those that wait. */

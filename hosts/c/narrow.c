@@ -11,7 +11,8 @@
 #define ROUNDS 200000
 
 /* The same functions, as a caller sees them that fills whole registers and reads whole registers. */
-#define WHOLE(name) __asm__("serialpost_raw_" #name)
+#define WHOLE(name) __asm__("serialpost4_" #name)
+uint64_t whole_serial_init(uint8_t *regs, uint32_t *pos, uint64_t size) WHOLE(serial_init);
 uint64_t whole_serial_read(uint8_t *regs, uint32_t *pos, const uint8_t *ring, uint64_t offset) WHOLE(serial_read);
 uint64_t whole_serial_write(uint8_t *regs, uint32_t *pos, uint8_t *ring, uint64_t offset, uint64_t value)
     WHOLE(serial_write);
@@ -46,8 +47,18 @@ static struct serialpost_serial any_port(void)
 {
     struct serialpost_serial port;
     any_bytes(&port, sizeof port);
-    port.pos[1] %= 67;
+    port.pos[1] %= serialpost_serial_size(&port) + 3;
     return port;
+}
+
+/* Half of the time the size is one with which a port is made. */
+static void making(void)
+{
+    struct serialpost_serial port = any_port(), same = port;
+    uint32_t size = once_in(2) ? 16u << any() % 7 : any() % 2100;
+    uint32_t answer = serialpost_serial_init_sized(&port, size) ? 0 : SERIALPOST_WORD_REFUSED;
+    EXPECT((uint32_t)whole_serial_init(same.regs, same.pos, any_above(32, size)) == answer);
+    EXPECT(memcmp(&port, &same, sizeof port) == 0);
 }
 
 static void serial_accesses(void)
@@ -115,6 +126,7 @@ static void reset_accesses(void)
 int main(void)
 {
     for (int round = 0; round < ROUNDS; round++) {
+        making();
         serial_accesses();
         runs();
         clock_accesses();

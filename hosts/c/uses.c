@@ -53,9 +53,10 @@ static void a_fresh_port(void)
         EXPECT(read_at(&port, offset) == shown[offset]);
     write_at(&port, SERIALPOST_LCR, 0x83);
     EXPECT(read_at(&port, 0) == 0x0c && read_at(&port, 1) == 0x00);
-    EXPECT(serialpost_serial_room(&port) == SERIALPOST_SERIAL_CAPACITY);
-    static const uint8_t no_spare[7] = { 0 };
+    EXPECT(serialpost_serial_room(&port) == SERIALPOST_SERIAL_USUAL);
+    static const uint8_t no_spare[6] = { 0 };
     EXPECT(memcmp(port.regs + 9, no_spare, sizeof no_spare) == 0 && port.pos[2] == 0 && port.pos[3] == 0);
+    EXPECT(serialpost_serial_size(&port) == SERIALPOST_SERIAL_USUAL && port.regs[15] == 0);
 }
 
 static void input_is_read_in_order(void)
@@ -189,7 +190,7 @@ static void a_console_moves_to_another_host(void)
     struct serialpost_restored answer = serialpost_serial_restore(&there, &saved);
     EXPECT(!answer.refused && answer.raises == 1 && answer.reachable);
     EXPECT(there.pos[2] == 0x5a5a5a5a && there.pos[3] == 0x5a5a5a5a);
-    EXPECT(serialpost_serial_room(&there) == SERIALPOST_SERIAL_CAPACITY - 6);
+    EXPECT(serialpost_serial_room(&there) == SERIALPOST_SERIAL_USUAL - 6);
     EXPECT(read_at(&there, SERIALPOST_IIR) == 0xc4);
     for (const char *byte = "ls -l\n"; *byte; byte++)
         EXPECT(read_at(&there, SERIALPOST_RBR) == *byte);
@@ -219,9 +220,9 @@ static void a_state_that_no_run_comes_to_is_restored_and_told(void)
     saved.regs[SERIALPOST_MSR] = 0xff;
     EXPECT(restores(&port, &saved, false) && read_at(&port, SERIALPOST_MSR) == 0xff);
     saved.regs[SERIALPOST_MSR] = 0xb0;
-    saved.regs[15] = 1;
-    EXPECT(restores(&port, &saved, false) && port.regs[15] == 1);
-    saved.regs[15] = 0;
+    saved.regs[14] = 1;
+    EXPECT(restores(&port, &saved, false) && port.regs[14] == 1);
+    saved.regs[14] = 0;
     saved.count = 64;
     EXPECT(restores(&port, &saved, false) && read_at(&port, SERIALPOST_LSR) == 0x60);
     EXPECT(serialpost_serial_room(&port) == 0 && read_at(&port, SERIALPOST_RBR) == 0xa5);
@@ -264,7 +265,7 @@ static void a_port_is_kept_as_bytes(void)
     EXPECT(memcmp(again.regs, saved.regs, sizeof again.regs) == 0 && memcmp(again.waiting, "ls\n", 3) == 0);
     EXPECT(serialpost_serial_decode(form, encoded.length - 1, &again) == SERIALPOST_TOO_SHORT && again.count == 3);
 
-    saved.count = SERIALPOST_SERIAL_CAPACITY;
+    saved.count = SERIALPOST_SERIAL_USUAL;
     EXPECT(serialpost_serial_encode(&saved, form, sizeof form).length == sizeof form);
     saved.regs[9] = 1;
     encoded = serialpost_serial_encode(&saved, form, sizeof form);
@@ -476,7 +477,7 @@ static void bytes_sent_and_lost_are_counted(void)
     EXPECT(port_counts(&counters, 0, 2, 1, 0));
 
     counted_write(&port, &counters, SERIALPOST_MCR, 0x10);
-    for (int i = 0; i < SERIALPOST_SERIAL_CAPACITY; i++) {
+    for (int i = 0; i < SERIALPOST_SERIAL_USUAL; i++) {
         struct serialpost_written looped = counted_write(&port, &counters, SERIALPOST_THR, 'z');
         EXPECT(!looped.sends && looped.looped && !looped.dropped);
     }

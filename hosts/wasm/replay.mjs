@@ -15,19 +15,22 @@ const number = (digits) => parseInt(digits, 16);
 const countersText = (counters) => ["counters", ...Object.values(counters.values)].join(" ");
 const reachableText = (reachable) => (reachable ? "reached" : "unreached");
 
-// Each device's accesses: what a line looks like, and how it is answered.
+// Each device: the line with which it begins, which `begin` may refuse, and its accesses: what a line looks like, and how
+// it is answered.
 
 class SerialLines {
-    name = "serial";
+    line = /^serial(?: ([1-9][0-9]*))?$/;
 
     constructor(library) {
         this.port = new SerialPort(library);
         this.counters = new SerialCounters(library);
     }
 
-    begin() {
-        this.port.init();
-        this.counters.init();
+    begin(size = "64") {
+        const made = this.port.init(Number(size));
+        if (made)
+            this.counters.init();
+        return made;
     }
 
     accesses = [
@@ -66,7 +69,7 @@ class SerialLines {
 }
 
 class ClockLines {
-    name = "clock";
+    line = /^clock$/;
 
     constructor(library) {
         this.clock = new Clock(library);
@@ -77,6 +80,7 @@ class ClockLines {
         this.clock.init();
         this.counters.init();
         this.time = 0n;
+        return true;
     }
 
     accesses = [
@@ -111,13 +115,15 @@ class ClockLines {
 }
 
 class ResetLines {
-    name = "i8042";
+    line = /^i8042$/;
 
     constructor(library) {
         this.controller = new ResetController(library);
     }
 
-    begin() {}
+    begin() {
+        return true;
+    }
 
     accesses = [
         [/^w ([0-9a-f]{2}) ([0-9a-f]{2})$/, (offset, value) =>
@@ -137,10 +143,13 @@ class Replay {
             return undefined;
         if (line.length > LONGEST_LINE)
             return NO_OPERATION;
-        const device = this.devices.find(({ name }) => name === line);
-        if (device) {
+        for (const device of this.devices) {
+            const words = device.line.exec(line);
+            if (!words)
+                continue;
+            if (!device.begin(...words.slice(1)))
+                return NO_OPERATION;
             this.current = device;
-            device.begin();
             return line;
         }
         for (const [shape, answer] of this.current?.accesses ?? []) {

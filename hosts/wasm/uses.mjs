@@ -2,13 +2,13 @@
 // uses.mjs [MODULE.wasm]
 //
 // Tests a WebAssembly module, and serialpost.mjs with it: it has the functions of the header and each is called, a run
-// played at once is the calls one after another, forms of states are read and written as recorded, and of an argument
-// of 8 or 16 bits only these count. Exit status: 0 all holds, 1 something does not, 2 there is no such module.
+// played at once is the calls one after another, forms of states are read and written as recorded, ports have the size that
+// they are made with, and of an argument of 8 or 16 bits only these count. Exit status: 0 all holds, 1 something does not, 2 there is no such module.
 import { readFileSync } from "node:fs";
 import { fail, loadNamed } from "./module.mjs";
 import { Clock, ClockCounters, ResetController, SerialCounters, SerialPort } from "./serialpost.mjs";
 import { decodeClock, decodePort, encodeClock, encodePort } from "./serialpost.mjs";
-import { isDataRead, isDelivered, isDropped, isLooped, isNoneLeft } from "./serialpost.mjs";
+import { isDataRead, isDelivered, isDropped, isLooped, isNoneLeft, isRefused, numberOf } from "./serialpost.mjs";
 import { bytesOf, clockText, hexOf, portText } from "./text.mjs";
 
 const inRepository = (path) => readFileSync(new URL(`../../${path}`, import.meta.url), "latin1");
@@ -34,7 +34,7 @@ const withAnyAbove = (bits, value) => (value | (any(2 ** (32 - bits)) << bits)) 
 
 /** The header's functions, each with the type of its result. */
 function declared() {
-    const found = inRepository("include/serialpost_raw.h").matchAll(/^(\w+) (serialpost_\w+)\(/gm);
+    const found = inRepository("include/serialpost_raw.h").matchAll(/^(\w+) (serialpost\d+_\w+)\(/gm);
     return new Map(Array.from(found, ([, result, name]) => [name, result]));
 }
 
@@ -112,8 +112,9 @@ function formsAreAsRecorded(library) {
 function statesWithoutAFormAreRefused(library) {
     const port = { ...new SerialPort(library).save(), waiting: anyBytes(65) };
     expect(encodePort(library, port).reason, "too many", "65 bytes wait");
-    const spare = { ...new SerialPort(library).save(), regs: new Uint8Array(16).fill(1, 15) };
+    const spare = { ...new SerialPort(library).save(), regs: new Uint8Array(16).fill(1, 14, 15) };
     expect(encodePort(library, spare).reason, "spare", "a spare register is 1");
+    expect(encodePort(library, new SerialPort(library, 128).save()).reason, "spare", "a port of 128");
     expect(encodeClock(library, { ...new Clock(library).save(), spare: 1n }).reason, "spare", "a spare word is 1");
 }
 
@@ -144,6 +145,34 @@ function devicesAreSavedAndRestored(library) {
     clock.write(8, 1000n, [5, 0, 0, 0]);
     expect(another.restore(clock.save()), true, "whether a run comes to the clock");
     expect(hexOf(another.read(0, 1010n, [0, 0, 0, 0]).bytes), "0f000000", "a restored clock's time");
+}
+
+// ---- Sizes
+
+function portsHaveTheSizeThatTheyAreMadeWith(library) {
+    for (const size of [16, 32, 64, 128, 256, 512, 1024]) {
+        const port = new SerialPort(library, size), bytes = anyBytes(size + 1), other = new SerialPort(library);
+        expect(`${port.size()} ${port.room()}`, `${size} ${size}`, "a fresh port's size and room");
+        expect(numberOf(port.input(bytes)), size, "how many bytes it takes");
+        expect(isRefused(port.input(bytes.slice(size))), true, "one more is refused");
+        const saved = port.save();
+        expect(other.restore(saved).reachable, true, "whether a run comes to a port of this size");
+        expect(`${other.size()} ${other.room()}`, `${size} 0`, "a restored port's size and room");
+        expect(portText(other.save()), portText(saved), "a restored port");
+        expect(other.restore({ ...saved, waiting: bytes }), undefined, "one byte more than the size is brought back");
+        expect(hexOf(bytes.slice(0, size)), hexOf(Uint8Array.from(bytes.slice(0, size), () => numberOf(other.read(0)))), "its bytes");
+    }
+    expect(new SerialPort(library).size(), 64, "the usual size");
+}
+
+function otherNumbersAreNoSizes(library) {
+    const port = new SerialPort(library, 256);
+    port.input(anyBytes(100));
+    const before = portText(port.save());
+    for (const size of [0, 15, 17, 48, 2048, 2 ** 32 - 1, 2 ** 32 + 64, 64.5, -1, NaN]) {
+        expect(port.init(size), false, `whether a port of ${size} is made`);
+        expect(`${port.size()} ${portText(port.save())}`, `256 ${before}`, "the port after that");
+    }
 }
 
 // ---- The level of the line
@@ -235,7 +264,7 @@ function upperBitsOfClockOffsetsDoNotCount(library) {
 
 function theHeaderHasThisVersion(library) {
     const [, version] = /^#define SERIALPOST_VERSION (\d+)$/m.exec(inRepository("include/serialpost.h"));
-    expect(library.calls.serialpost_raw_version(), Number(version), "the version");
+    expect(library.calls.serialpost4_version(), Number(version), "the version");
 }
 
 function main(words) {
@@ -249,6 +278,8 @@ function main(words) {
     statesWithoutAFormAreRefused(library);
     clocksWithAnyOffsetAreKeptAsBytes(library);
     devicesAreSavedAndRestored(library);
+    portsHaveTheSizeThatTheyAreMadeWith(library);
+    otherNumbersAreNoSizes(library);
     theLineIsHighWhileAByteWaits(library);
     whatHappensIsToldAndCounted(library);
     countersStopAtTheHighestNumber(library);

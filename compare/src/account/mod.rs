@@ -1,6 +1,7 @@
 //! The account: what our devices do, and what vm-superio's do, each written from a description of its
 //! behaviour and not from its source. It is a second witness beside each, and the only one of the
-//! original where its source is not at hand. They differ in the interrupts of the serial port only.
+//! original where its source is not at hand. They differ in the interrupts of the serial port, and in that
+//! ours has ports of seven sizes; nowhere else.
 
 pub mod clock;
 pub mod original;
@@ -8,7 +9,7 @@ pub mod ours;
 pub mod reached;
 pub mod serial;
 
-use crate::devices::{self, Devices};
+use crate::devices::{self, Devices, SerialState};
 use original::Original;
 use ours::Ours;
 use serial::Serial;
@@ -26,9 +27,17 @@ pub enum Account {
 impl Devices for Account {
     fn serial(&mut self) -> Box<dyn devices::Serial> {
         let quiet_enable = matches!(self, Account::QuietEnable);
+        let size = SerialState::SIZE;
         match self {
-            Account::Ours => Box::new(Serial::fresh(Ours)),
-            _ => Box::new(Serial::fresh(Original { quiet_enable })),
+            Account::Ours => Box::new(Serial::fresh(Ours, size)),
+            _ => Box::new(Serial::fresh(Original { quiet_enable }, size)),
+        }
+    }
+
+    fn serial_of(&mut self, size: usize) -> Option<Box<dyn devices::Serial>> {
+        match self {
+            Account::Ours => Some(Box::new(Serial::fresh(Ours, size))),
+            _ => None,
         }
     }
 
@@ -50,5 +59,25 @@ impl devices::I8042 for I8042 {
 
     fn read(&mut self, _offset: u8) -> u8 {
         0
+    }
+}
+
+#[cfg(test)]
+mod tests {
+    use super::*;
+    use crate::driver::Driver;
+
+    #[test]
+    fn ours_alone_has_ports_of_other_sizes() {
+        for (account, answers) in [
+            (Account::Ours, "serial 16\nroom 16\n"),
+            (Account::Original, "?\nroom 64\n"),
+            (Account::QuietEnable, "?\nroom 64\n"),
+        ] {
+            let mut driver = Driver::new(account);
+            driver.answer(b"serial");
+            let asked = [driver.answer(b"serial 16"), driver.answer(b"room")];
+            assert_eq!(asked.concat(), answers.as_bytes());
+        }
     }
 }

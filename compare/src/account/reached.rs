@@ -29,22 +29,20 @@ mod tests {
     use crate::account::Account;
     use crate::devices::Devices;
     use crate::driver::Driver;
-    use crate::format::Words;
 
-    /// All ports that operations lead to from a fresh one, where the bytes are zeros and of the registers
-    /// that no interrupt depends on only the loop is changed.
-    fn all_met(account: Account) -> HashSet<SerialState> {
+    /// All ports that operations lead to from a fresh one of this name and size, where the bytes are zeros and of
+    /// the registers that no interrupt depends on only the loop is changed.
+    fn all_met(account: Account, port: &str, size: usize) -> HashSet<SerialState> {
         let mut lines: Vec<String> = (0..0x10).map(|value| format!("w 01 {value:02x}")).collect();
         lines.extend(["w 00 00", "w 04 10", "w 04 08", "r 00", "r 02", "b 00"].map(String::from));
-        lines.push(format!("b {}", "00".repeat(64)));
+        lines.push(format!("b {}", "00".repeat(size)));
         let mut driver = Driver::new(account);
-        driver.answer(b"serial");
+        driver.answer(port.as_bytes());
         let mut left = vec![driver.port().unwrap()];
         let mut met = HashSet::from_iter(left.clone());
         while let Some(state) = left.pop() {
-            let restore = Words::start("restore").registers(&state).waiting(&state).0;
             for line in &lines {
-                driver.answer(&restore);
+                driver.put_port(&state);
                 driver.answer(line.as_bytes());
                 let next = driver.port().unwrap();
                 if met.insert(next.clone()) {
@@ -57,19 +55,25 @@ mod tests {
 
     #[test]
     fn a_port_is_reached_if_and_only_if_operations_lead_to_it() {
-        is_exact(Account::Ours, serial);
-        is_exact(Account::Original, original_serial);
+        is_exact(Account::Ours, "serial", 64, serial);
+        is_exact(Account::Original, "serial", 64, original_serial);
+        is_exact(Account::Ours, "serial 16", 16, serial);
+        is_exact(Account::Ours, "serial 128", 128, serial);
     }
 
-    fn is_exact(account: Account, is_reached: fn(&SerialState) -> bool) {
-        let met = all_met(account);
+    fn is_exact(account: Account, port: &str, size: usize, is_reached: fn(&SerialState) -> bool) {
+        let met = all_met(account, port, size);
         let mut reached = 0;
-        for waiting in 0..=65 {
+        for waiting in 0..=size + 1 {
             for (ier, iir) in (0..0x20).flat_map(|ier| (0..=0xff).map(move |iir| (ier, iir))) {
                 for (lsr, msr) in [(0x60, 0xb0), (0x61, 0xb0), (0x00, 0xb0), (0x61, 0xb1)] {
                     let registers = [0x0c, 0x00, ier, iir, 0x03, lsr, 0x08, msr, 0x00];
                     let buffer = vec![0; waiting];
-                    let state = SerialState { registers, buffer };
+                    let state = SerialState {
+                        registers,
+                        buffer,
+                        size,
+                    };
                     assert_eq!(is_reached(&state), met.contains(&state), "{state:?}");
                     reached += usize::from(is_reached(&state));
                 }

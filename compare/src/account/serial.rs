@@ -62,7 +62,8 @@ pub fn reaches(way: &impl Way, port: &SerialState) -> bool {
     port.registers[LSR] == lsr
         && port.registers[MSR] == MSR_FRESH
         && port.registers[IER] < 0x10
-        && port.buffer.len() <= SerialState::SIZE
+        && SerialState::SIZES.contains(&port.size)
+        && port.buffer.len() <= port.size
         && way.reaches_iir(port)
 }
 
@@ -86,12 +87,15 @@ pub struct Serial<W> {
 }
 
 impl<W: Way> Serial<W> {
-    pub fn fresh(way: W) -> Self {
+    pub fn fresh(way: W, size: usize) -> Self {
         let registers = [
             0x0c, 0x00, 0x00, 0x01, 0x03, LSR_FRESH, 0x08, MSR_FRESH, 0x00,
         ];
-        let buffer = Vec::new();
-        let port = SerialState { registers, buffer };
+        let port = SerialState {
+            registers,
+            buffer: Vec::new(),
+            size,
+        };
         Serial {
             way,
             port,
@@ -227,7 +231,7 @@ impl<W: Way> devices::Serial for Serial<W> {
 
     /// What was counted is no part of a state.
     fn restore(&mut self, state: &SerialState) -> Option<Raised> {
-        if state.buffer.len() > SerialState::SIZE {
+        if state.buffer.len() > state.size {
             return None;
         }
         self.port = state.clone();

@@ -1,7 +1,12 @@
 //! What a guest and its host do to each device, at random.
 
 use super::random::Writer;
+use crate::devices::SerialState;
 use crate::format::Words;
+
+/// To read a buffer empty, or to fill it through the loop, takes a line for each byte. With more bytes than these
+/// it is done seldom.
+const FEW: usize = 64;
 
 impl Writer {
     // ---- The serial port
@@ -80,9 +85,19 @@ impl Writer {
         self.list.driver.port().map_or(0, |port| port.buffer.len())
     }
 
+    /// How many bytes can wait.
+    pub(super) fn size(&self) -> usize {
+        let port = self.list.driver.port();
+        port.map_or(SerialState::SIZE, |port| port.size)
+    }
+
     /// Brings the buffer to a limit, the divisor and the loop to a setting, and touches the data there.
     fn at_a_limit(&mut self) {
-        let waiting = self.numbers.pick(&[0, 1, 63, 64]);
+        let size = self.size();
+        let mut waiting = self.numbers.pick(&[0, 1, size - 1, size]);
+        if self.waiting() > waiting + FEW && !self.numbers.once_in(8) {
+            waiting = self.numbers.pick(&[size - 1, size]);
+        }
         self.empty_to(waiting);
         self.fill_to(waiting);
         let settings = [(0x03, 0x08), (0x03, 0x10), (0x83, 0x08), (0x83, 0x10)];
@@ -104,7 +119,7 @@ impl Writer {
         }
     }
 
-    /// Fills the buffer from outside, or through the loop.
+    /// Fills the buffer from outside, or through the loop, the last bytes at least.
     fn fill_to(&mut self, target: usize) {
         let missing = target.saturating_sub(self.waiting());
         let bytes = self.numbers.bytes(missing);
@@ -113,17 +128,25 @@ impl Writer {
             self.add("w 04 08");
             self.add_input(&bytes);
         } else {
+            let (first, last) = bytes.split_at(missing.saturating_sub(FEW));
+            if !first.is_empty() {
+                self.add("w 04 08");
+                self.add_input(first);
+            }
             self.add("w 04 10");
-            for value in bytes {
-                self.write(0, value);
+            for value in last {
+                self.write(0, *value);
             }
         }
     }
 
     fn input(&mut self) {
-        let room = 64 - self.waiting();
-        let size = match self.numbers.below(3) {
-            0 => self.numbers.pick(&[0, 1, 63, 64, 65, 200]),
+        let size = self.size();
+        let room = size - self.waiting();
+        let count = match self.numbers.below(3) {
+            0 => self
+                .numbers
+                .pick(&[0, 1, size - 1, size, size + 1, 3 * size + 8]),
             // As much as there is room for, one less and one more, or some part of it.
             1 => match self.numbers.below(4) {
                 0 => room.saturating_sub(1),
@@ -133,7 +156,7 @@ impl Writer {
             },
             _ => self.numbers.below(8),
         };
-        let bytes = self.numbers.bytes(size);
+        let bytes = self.numbers.bytes(count);
         self.add_input(&bytes);
     }
 
@@ -150,7 +173,7 @@ impl Writer {
     /// Enables interrupts, mostly after the buffer was emptied: where announcing writes are left out,
     /// nothing could be enabled otherwise.
     fn enable(&mut self) {
-        if !self.numbers.once_in(4) {
+        if !self.numbers.once_in(4) && self.waiting() <= FEW {
             self.empty_to(0);
         }
         let value = self

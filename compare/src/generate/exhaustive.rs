@@ -18,11 +18,11 @@ pub fn list(options: &Options) -> Vec<u8> {
     }
     if list.has(Device::Clock) {
         every_clock_offset(&mut list);
-        every_run(&mut list, "clock", clock_alphabet(saves));
+        every_run(&mut list, "clock", &clock_alphabet(saves), 3);
     }
     if list.has(Device::Serial) {
         every_serial_access(&mut list);
-        every_run(&mut list, "serial", serial_alphabet(saves, counters));
+        every_run(&mut list, "serial", &serial_alphabet(saves, counters), 3);
     }
     if list.has(Device::Clock) && saves {
         restored_clocks(&mut list);
@@ -134,12 +134,12 @@ fn restored_marks(list: &mut List) {
     }
 }
 
-/// So many bytes in hex, no two alike so that their order shows; or `-` for none.
-fn different_bytes(count: u8) -> String {
+/// So many bytes in hex, up to 251 no two alike so that their order shows; or `-` for none.
+pub(super) fn different_bytes(count: usize) -> String {
     match count {
         0 => "-".to_string(),
         _ => (0x21..0x21 + count)
-            .map(|byte| format!("{byte:02x}"))
+            .map(|byte| format!("{:02x}", byte % 251))
             .collect(),
     }
 }
@@ -199,13 +199,13 @@ fn saves_alphabet(saves: bool) -> Vec<String> {
     lines.iter().map(|line| line.to_string()).collect()
 }
 
-/// Every run of up to three operations, each on a fresh device and with the state at its end. A run
+/// Every run of up to so many operations, each on a fresh device and with the state at its end. A run
 /// with a line that might announce is left out whole where such lines are.
-fn every_run(list: &mut List, device: &str, alphabet: Vec<String>) {
+pub(super) fn every_run(list: &mut List, device: &str, alphabet: &[String], longest: usize) {
     // Runs in the order in which each comes before those that begin with it.
     let mut left = vec![device.to_string()];
     while let Some(run) = left.pop() {
-        if run.matches('\n').count() < 3 {
+        if run.matches('\n').count() < longest {
             left.extend(alphabet.iter().rev().map(|line| format!("{run}\n{line}")));
         }
         if !list.options.quiet_enable || !has_announcement(&run) {

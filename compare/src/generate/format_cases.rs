@@ -50,6 +50,7 @@ fn cases(list: &mut List) {
     for lines in [
         malformed::LINES,
         malformed::SAVES,
+        malformed::SIZES,
         malformed::ABOUT_THE_LINE,
         malformed::ABOUT_COUNTERS,
     ] {

@@ -37,7 +37,7 @@ pub const LINES: &[&[u8]] = &[
     b"now 36893488147419103232", b"now 184467440737095516160", b"now 100000000000000000000000000000000000",
 ];
 
-/// Such lines about the line, about counters, and about saved states. They have lists of their own: from the
+/// Such lines about the line, about counters, about sizes, and about saved states. They have lists of their own: from the
 /// lines above random lists draw that have none of these, and a seed is to make the same one always.
 #[rustfmt::skip]
 pub const ABOUT_THE_LINE: &[&[u8]] = &[
@@ -51,6 +51,25 @@ pub const ABOUT_COUNTERS: &[&[u8]] = &[
     b"counters\r", b"counters\t", b"counters\0", b"counters#", b"counters counters", b"counters -", b"counters  ",
     b"lost ", b" lost", b"Lost", b"LOST", b"los", b"losts", b"lost 0", b"lost 1", b"lost 55", b"lost\r", b"lost\t", b"lost\0", b"lost#",
     b"lost lost", b"lost -", b"lost  ",
+];
+
+#[rustfmt::skip]
+pub const SIZES: &[&[u8]] = &[
+    // Numbers between, above and below the seven, and such as are one of them in fewer bits.
+    b"serial 0", b"serial 1", b"serial 2", b"serial 4", b"serial 8", b"serial 15", b"serial 17", b"serial 24", b"serial 31", b"serial 33",
+    b"serial 48", b"serial 63", b"serial 65", b"serial 96", b"serial 100", b"serial 127", b"serial 192", b"serial 255", b"serial 257",
+    b"serial 511", b"serial 513", b"serial 1000", b"serial 1023", b"serial 1025", b"serial 2048", b"serial 4096", b"serial 65536",
+    b"serial 65552", b"serial 66560", b"serial 4294967312", b"serial 4294968320", b"serial 18446744073709551616",
+    b"serial 18446744073709551632", b"serial 18446744073709552640", b"serial 100000000000000000000000000000000000000016",
+    // The seven, written otherwise.
+    b"serial 016", b"serial 0064", b"serial 01024", b"serial 16 ", b"serial  16", b" serial 16", b"serial 16 16", b"serial 16 64",
+    b"serial 16\r", b"serial 16\t", b"serial\t16", b"serial 16\0", b"serial 16#", b"serial +16", b"serial -16", b"serial 16.0",
+    b"serial 1,024", b"serial 1 024", b"serial 1_024", b"serial 0x10", b"serial 0x40", b"serial 10", b"serial 40", b"serial 400",
+    b"serial 1k", b"serial 1K", b"serial a", b"serial -", b"serial ?", b"serial 6", b"serial 64b", b"serial 64 bytes", b"serial 1e3",
+    b"Serial 64", b"SERIAL 64", b"serial64", b"serials 64", b"seria 64", b"64 serial", b"serial serial", b"64", b"size 64", b"serial /6",
+    b"serial 1:", b"serial \xb16",
+    // The other devices have none.
+    b"clock 16", b"clock 64", b"i8042 16", b"i8042 64", b"room 64", b"state 64", b"save 64", b"restore 64",
 ];
 
 #[rustfmt::skip]

@@ -6,13 +6,14 @@ pub mod format_cases;
 pub mod malformed;
 pub mod numbers;
 pub mod random;
+pub mod sizes;
 pub mod states;
 
 use crate::account::Account;
 use crate::driver::Driver;
 use crate::format::{self, Device, Operation};
 
-/// What a list may hold. The default is everything.
+/// What a list may hold. The default is everything that vm-superio has, too.
 #[derive(Clone)]
 pub struct Options {
     pub devices: Vec<Device>,
@@ -24,6 +25,8 @@ pub struct Options {
     pub lines: bool,
     /// Ask for the counters, and lose bytes. The same holds.
     pub counters: bool,
+    /// Make ports of all sizes. vm-superio has none but the usual one.
+    pub sizes: bool,
 }
 
 impl Default for Options {
@@ -34,6 +37,7 @@ impl Default for Options {
             saves: true,
             lines: true,
             counters: true,
+            sizes: false,
         }
     }
 }
@@ -66,9 +70,13 @@ pub struct List {
 
 impl List {
     pub fn new(options: &Options) -> Self {
+        let account = match options.sizes {
+            true => Account::Ours,
+            false => Account::Original,
+        };
         List {
             options: options.clone(),
-            driver: Driver::new(Account::Original),
+            driver: Driver::new(account),
             asking: 0,
             text: Vec::new(),
         }
@@ -92,6 +100,7 @@ impl List {
     fn is_left_out(&self, line: &[u8]) -> bool {
         match format::parse(line) {
             Some(Operation::Start(device)) => !self.has(device),
+            Some(Operation::StartOf(_)) => !self.options.sizes || !self.has(Device::Serial),
             Some(Operation::Line) => !self.options.lines,
             Some(Operation::Counters | Operation::Lost) => !self.options.counters,
             Some(operation) if operation == Operation::Save || operation.brings_back() => {
@@ -118,8 +127,9 @@ mod tests {
             saves: false,
             lines: false,
             counters: false,
+            sizes: false,
         });
-        list.add("counters\nlost");
+        list.add("counters\nlost\nserial 64");
         list.add(
             "serial\nclock\nw 01 02\nline\nsave\nrestore\nrestore 00 00 00 00 00 00 00 00 00 -",
         );

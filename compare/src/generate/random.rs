@@ -1,10 +1,12 @@
 //! Long random lists. They steer to the limits: a buffer that is empty, one short of full and full, the
 //! divisor and the loop open and closed, offsets beyond the registers, times at the ends of 32 and 64
 //! bits and going backwards, states that are saved and brought back, bytes that are lost, and lines that are
-//! no operation. The counters are asked for every few lines.
+//! no operation. The counters are asked for every few lines. Where ports of all sizes are asked for, the limits are
+//! those of the present one.
 
 use super::numbers::Numbers;
 use super::{malformed, states, List, Options};
+use crate::devices::SerialState;
 use crate::format::{parse, Device, Operation, Words};
 
 /// A list with `count` lines that get an answer.
@@ -98,6 +100,11 @@ impl Writer {
             if options.saves && self.numbers.once_in(5) {
                 self.save_or_restore(device);
             }
+            // A port that a line gave has the usual size, and others are to be seen, too.
+            let is_usual = device == Device::Serial && self.size() == SerialState::SIZE;
+            if options.sizes && is_usual && self.numbers.once_in(20) {
+                self.start(device);
+            }
             match device {
                 Device::Serial if options.counters && self.numbers.once_in(10) => self.talk(),
                 Device::Serial if options.lines && self.numbers.once_in(3) => self.interrupts(),
@@ -113,8 +120,24 @@ impl Writer {
     }
 
     fn start(&mut self, device: Device) {
-        self.add(device.word());
+        if device == Device::Serial && self.list.options.sizes {
+            self.start_of_some_size();
+        } else {
+            self.add(device.word());
+        }
         self.now = 0;
+    }
+
+    /// A port, and before it one that is refused.
+    fn start_of_some_size(&mut self) {
+        let line = self.numbers.pick(malformed::SIZES);
+        self.exactly(line);
+        if self.numbers.once_in(8) {
+            self.add("serial");
+        } else {
+            let size = self.numbers.pick(&SerialState::SIZES);
+            self.add(format!("serial {size}"));
+        }
     }
 
     /// A line that is no operation of the device.
@@ -147,6 +170,7 @@ impl Writer {
                 let line = self.numbers.pick(malformed::SAVES);
                 self.exactly(line);
             }
+            _ if self.list.options.sizes && !self.numbers.once_in(12) => self.add("restore"),
             _ => self.restore_made_up(),
         }
     }

@@ -39,6 +39,7 @@ fn any_port(numbers: &mut Numbers) -> SerialState {
     SerialState {
         registers: [0; 9].map(|_| numbers.byte()),
         buffer: numbers.bytes(size),
+        size: SerialState::SIZE,
     }
 }
 

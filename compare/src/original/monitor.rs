@@ -144,7 +144,12 @@ impl devices::Serial for Wired<api::Serial<Wire, Events, Wire>> {
         let mut state = self.device.state();
         let registers = registers(&mut state).map(|register| *register);
         let buffer = state.in_buffer;
-        SerialState { registers, buffer }
+        let size = SerialState::SIZE;
+        SerialState {
+            registers,
+            buffer,
+            size,
+        }
     }
 
     /// Where the state is not brought back the port stays. The events go on.

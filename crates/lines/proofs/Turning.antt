@@ -140,7 +140,7 @@ module _ {held : List ℕ} {s s′ : State} {w : Devices} {device : Device} {clo
         done (clock h (record { out = out′; at = s′ .put; answer = answer; out′ = out″; puts = p; after = refl; begins = b; answers = a; words = words })) p
 
   pub turn-port : {out″ : List ℕ} {answer : serial-said.Said} → task .whose ≡ whose.Ports
-      → (task .fresh ≡ true → BeginsSerial ports out′ (s′ .put) answer out″)
+      → (task .fresh ≡ true → BeginsSerial (line-in held s′ r) ports out′ (s′ .put) answer out″)
       → (task .fresh ≡ false → AnswersSerial (line-in held s′ r) ports out′ (s′ .put) answer out″)
       → Turns held s w out out″ (after s′ r (answer .put)) (devices (task .device) clocks (answer .ports))
   turn-port {out″} {answer} h b a = by (task .fresh) refl where

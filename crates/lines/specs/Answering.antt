@@ -9,7 +9,7 @@ use Rattle.clock.specs.Layout.{Words}
 use Rattle.clock_lines.specs.declared.Clocks as clock-memory
 use Rattle.clock_lines.specs.declared.Said as clock-said
 use Rattle.pieces.specs.Cutting.{longest, kindOf, linesOf, linesIn, restOf}
-use Rattle.serial.specs.Layout.{size}
+use Rattle.serial.specs.Layout.{places}
 use Rattle.serial_lines.specs.declared.Ports as serial-memory
 use Rattle.serial_lines.specs.declared.Said as serial-said
 use Rattle.words.specs.Put.{Puts}
@@ -44,7 +44,7 @@ pub record PortSays (line : List ℕ) (fresh : Bool)
   pub out′ : List ℕ
   pub puts : Puts out at said out′ (answer .put)
   pub after : answer .ports ≡ ports′
-  pub begins : fresh ≡ true → BeginsSerial ports out at answer out′
+  pub begins : fresh ≡ true → BeginsSerial line ports out at answer out′
   pub answers : fresh ≡ false → AnswersSerial line ports out at answer out′
 
 -- What is to be done with a line is done: what is said, and the devices after it.
@@ -72,7 +72,7 @@ pub data Answers : Devices → List (List ℕ) → List ℕ → Devices → Type
 pub record First (w : Devices) : Type 0 where
   pub device : w .device ≡ Nothing
   pub clocks : w .clocks .keeps ≡ false
-  pub ports : size < w .ports .held .count
+  pub ports : places < w .ports .held .count
 
 -- `said` answers the whole input.
 pub record AnswersInput (input said : List ℕ) : Type 0 where

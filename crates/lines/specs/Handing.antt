@@ -2,7 +2,7 @@
 use Prim.Native.Nat.{ℕ}
 use mathlib.Core.Path.{_≡_}
 use mathlib.Core.Bool.{Bool, true, false, cond}
-use mathlib.Core.List.{List, []}
+use mathlib.Core.List.{List, [], _++_}
 use Rattle.clock.specs.Layout.{Inits}
 use Rattle.clock_lines.specs.Answers as clock
 use Rattle.clock_lines.specs.declared.Clocks as clock-memory
@@ -12,6 +12,7 @@ use Rattle.pieces.specs.declared.cut.Kind.{Kind}
 use Rattle.pieces.specs.declared.cut.Kind.the-variants.{Silent, TooLong, Whole}
 use Rattle.reset_lines.specs.Reset.{resetAnswer}
 use Rattle.serial.specs.Calls.{MakesFresh}
+use Rattle.serial.specs.Port.{isSize}
 use Rattle.serial_lines.specs.Answers as serial
 use Rattle.serial_lines.specs.Counted.{AnswersPorts, countersIn}
 use Rattle.serial_lines.specs.declared.Ports as serial-memory
@@ -25,10 +26,22 @@ use Rattle.lines.specs.declared.devices.Task.{Task}
 use Rattle.lines.specs.declared.devices.Whose.{Whose}
 use Rattle.lines.specs.declared.devices.Whose.the-variants.{Nobodys, Unknown, Resets, Clocks, Ports}
 
--- A device's name on a line by itself makes it the current one.
+-- How many bytes may wait in the serial port that a line names, or 0 where it names none.
+unfoldable pub sizeNamed : List ℕ → ℕ
+sizeNamed line =
+    cond (fitsOf (text "serial") line) 64
+    (cond (fitsOf (text "serial 16") line) 16
+    (cond (fitsOf (text "serial 32") line) 32
+    (cond (fitsOf (text "serial 64") line) 64
+    (cond (fitsOf (text "serial 128") line) 128
+    (cond (fitsOf (text "serial 256") line) 256
+    (cond (fitsOf (text "serial 512") line) 512
+    (cond (fitsOf (text "serial 1024") line) 1024 0)))))))
+
+-- A device's name on a line by itself, or the serial port's with a size, makes it the current one.
 unfoldable pub namedBy : List ℕ → Device
 namedBy line =
-    cond (fitsOf (text "i8042") line) Reset (cond (fitsOf (text "clock") line) Clock (cond (fitsOf (text "serial") line) Serial Nothing))
+    cond (fitsOf (text "i8042") line) Reset (cond (fitsOf (text "clock") line) Clock (cond (isSize (sizeNamed line)) Serial Nothing))
 
 abbrev pub whoseLine : Device → Whose
 whoseLine Nothing = Unknown
@@ -71,10 +84,12 @@ pub record BeginsClock (clocks : clock-memory.Clocks) (out : List ℕ) (at : ℕ
 abbrev pub AnswersClock : List ℕ → clock-memory.Clocks → List ℕ → ℕ → clock-said.Said → List ℕ → Type 0
 AnswersClock line clocks out at r out′ = clock.Answers (clock.asks clocks line) clocks out at r out′
 
--- The serial port was named: it is fresh, and nothing is counted; what was saved stays.
-pub record BeginsSerial (ports : serial-memory.Ports) (out : List ℕ) (at : ℕ) (r : serial-said.Said) (out′ : List ℕ) : Type 0 where
-  pub said : Puts out at (text "serial\n") out′ (r .put)
-  pub fresh : MakesFresh (r .ports .held .regs) (r .ports .held .pos)
+-- The serial port was named: it is fresh, of the size that the line names, and nothing is counted; what was saved stays. The line itself is
+-- the answer.
+pub record BeginsSerial (line : List ℕ) (ports : serial-memory.Ports) (out : List ℕ) (at : ℕ) (r : serial-said.Said) (out′ : List ℕ)
+    : Type 0 where
+  pub said : Puts out at (line ++ text "\n") out′ (r .put)
+  pub fresh : MakesFresh (sizeNamed line) (r .ports .held .regs) (r .ports .held .pos)
   pub kept : serial.Keeps false (ports .held) (r .ports .held)
   pub counted : countersIn (r .ports) ≡ freshSerial
 

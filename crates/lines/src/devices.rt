@@ -2,6 +2,7 @@
 use clock::eight_words;
 use clock_lines::Clocks;
 use pieces::cut::Kind;
+use serial::waiting::is_size;
 use serial_lines::Ports;
 use words::Block;
 use words::pattern::fits;
@@ -9,10 +10,12 @@ use words::put::put;
 use words::put::unknown;
 ghost use Prim.Native.Nat.{_+_, _≤_};
 ghost use mathlib.Core.Path.{_≡_};
-ghost use mathlib.Core.Bool.{true, false};
+ghost use mathlib.Core.Bool.{true, false, cond};
 ghost use Rattle.clock.specs.Layout.{Words};
-ghost use Rattle.lines.specs.Handing.{namedBy, whoseLine, namedTask, taskOf, plainSays};
+ghost use Rattle.serial.specs.Port.{isSize};
+ghost use Rattle.lines.specs.Handing.{sizeNamed, namedBy, whoseLine, namedTask, taskOf, plainSays};
 ghost use Rattle.lines.specs.Handing.{BeginsClock, AnswersClock, BeginsSerial, AnswersSerial};
+ghost use Rattle.words.specs.Pattern.{fitsOf};
 ghost use Rattle.words.specs.Put.{Puts};
 
 pub enum Device {
@@ -104,10 +107,34 @@ fn named(line: &[u8]) -> Device
     if fits(line, b"clock") {
         return Device::Clock;
     }
-    if fits(line, b"serial") {
+    if is_size(size_named(line)) {
         return Device::Serial;
     }
     Device::Nothing
+}
+
+// How many bytes may wait in the serial port that a line names, or 0 where it names none.
+fn size_named(line: &[u8]) -> u32
+    ensures { λ r. ⌜ r ≡ sizeNamed (now (line .entry)) ⌝ }
+{
+    let a = size_if(line, b"serial 1024", 1024, 0);
+    let b = size_if(line, b"serial 512", 512, a);
+    let c = size_if(line, b"serial 256", 256, b);
+    let d = size_if(line, b"serial 128", 128, c);
+    let e = size_if(line, b"serial 64", 64, d);
+    let f = size_if(line, b"serial 32", 32, e);
+    let g = size_if(line, b"serial 16", 16, f);
+    size_if(line, b"serial", 64, g)
+}
+
+// The size where the line is this name, or another.
+fn size_if(line: &[u8], name: &[u8], size: u32, other: u32) -> u32
+    ensures { λ r. ⌜ r ≡ cond (fitsOf (now (name .entry)) (now (line .entry))) size other ⌝ }
+{
+    if fits(line, name) {
+        return size;
+    }
+    other
 }
 
 fn line_of(device: Device) -> Whose
@@ -170,6 +197,7 @@ pub fn clock(
     clock_lines::Said { clocks: after, put }
 }
 
+// A line that names the port is its own answer.
 pub fn serial(
     line: &[u8],
     fresh: bool,
@@ -178,13 +206,15 @@ pub fn serial(
     at: usize,
 ) -> serial_lines::Said
     requires { ⌜ at + 4096 ≤ 65536 ⌝ }
+    requires { ⌜ (fresh ≡ true → isSize (sizeNamed (now line)) ≡ true) ⌝ }
     ensures { λ r. ⌜ r .put ≤ at + 4096 ⌝ }
-    ensures { λ r. ⌜ (fresh ≡ true → BeginsSerial ports (now (out .entry)) at r (now (out .exit))) ⌝ }
+    ensures { λ r. ⌜ (fresh ≡ true → BeginsSerial (now (line .entry)) ports (now (out .entry)) at r (now (out .exit))) ⌝ }
     ensures { λ r. ⌜ (fresh ≡ false → AnswersSerial (now (line .entry)) ports (now (out .entry)) at r (now (out .exit))) ⌝ }
 {
     if fresh {
-        let ports = serial_lines::begin(ports);
-        let put = put(out, at, b"serial\n");
+        let ports = serial_lines::begin(ports, size_named(line));
+        let a = put(out, at, line);
+        let put = put(out, a, b"\n");
         return serial_lines::Said { ports, put };
     }
     serial_lines::answer(line, ports, out, at)

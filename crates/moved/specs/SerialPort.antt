@@ -8,8 +8,13 @@ use Rattle.common.specs.Answer.{refusedBit}
 use Rattle.serial.specs.Layout.{portOf, spareRegisters}
 use Rattle.runs.specs.Run.{Op, run}
 use Rattle.serial_saved.specs.Calls.{Saves, Restores}
-use Rattle.serial_form.specs.Form.{readForm}
+use Rattle.serial_form.specs.Form.{others, freshOthers, readForm}
 use Rattle.serial_form.specs.Calls.{Encodes, Decodes}
+
+-- A port in which 64 bytes may wait, and no more do, and whose spare registers are 0.
+pub record HasForm (regs pos ring : List ℕ) : Type 0 where
+  pub zero : others regs ≡ freshOthers
+  pub fits : length (portOf regs pos ring .waiting) ≤ 64
 
 -- The first host saves its port, whatever lay where it saves the waiting bytes to, and writes what it saved into memory with room for the
 -- form: so many bytes of that memory leave.

@@ -55,6 +55,7 @@ chipOf p = record {
 pub record Sound (p : Port) : Type 0 where
   pub lsr : p .lsr ≡ cond (some (p .waiting)) 0x61 0x60
   pub msr : p .msr % 0x10 ≡ 0
+  -- at least as many bytes can wait as on the chip
   pub size : 16 ≤ p .size
 
 -- ---- A call agrees

@@ -12,7 +12,7 @@ use Rattle.pc16550d.specs.Compare.{deviceDoes, chipOf, RowAt, pair}
 abbrev pub setUp : List Op
 setUp = write 2 0x01 ∷ write 3 0x80 ∷ write 0 0x0c ∷ write 1 0x00 ∷ write 3 0x03 ∷ write 4 0x08 ∷ write 7 0x00 ∷ []
 
--- The fresh device, with room for 64 bytes.
+-- The fresh device, of the usual size.
 abbrev pub begins : Port
 begins = fresh 64
 

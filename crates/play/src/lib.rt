@@ -73,7 +73,7 @@ fn play_one(
             return serial::input(regs, pos, ring, bytes);
         }
         _ => {
-            return serial::room(pos);
+            return serial::room(regs, pos);
         }
     }
 }

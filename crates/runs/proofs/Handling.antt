@@ -12,7 +12,6 @@ use Rattle.interrupts.specs.Interrupts.{receivedData, transmitterEmpty, nonePen
 use Rattle.interrupts.proofs.Laws.{settled-keeps}
 use Rattle.line_status.specs.LineStatus.{lsrReady}
 use Rattle.modem.specs.Modem.{isLoop}
-use Rattle.serial.specs.Layout.{size}
 use Rattle.serial.specs.Port.{Port, isOpen, active, line, withReceiver, fresh, addressed, readRbr, readRegister, receives, writeIer}
 use Rattle.serial.specs.Port.{noEvents, readEvents, writeRegister, inputOf}
 use Rattle.runs.specs.Run.{read, write, input, step, run, replied, sent, took}
@@ -119,7 +118,7 @@ handler-ends (suc n) p o h = one-round n p o (active p receivedData) (active p t
 
 -- A driver that takes one byte an interrupt is raised once for two bytes, and for a third that comes while one waits not at all; the line
 -- stays high.
-pub one-byte-an-interrupt : let r = run (fresh size) (write 1 0x01 ∷ input (0x61 ∷ 0x62 ∷ []) ∷ read 0 ∷ input (0x63 ∷ []) ∷ []) in
+pub one-byte-an-interrupt : let r = run (fresh 64) (write 1 0x01 ∷ input (0x61 ∷ 0x62 ∷ []) ∷ read 0 ∷ input (0x63 ∷ []) ∷ []) in
     (r .answers ≡ sent [] noEvents 0 ∷ took 2 1 ∷ replied 0x61 (readEvents true true) 0 ∷ took 1 0 ∷ []) × ((r .port .waiting ≡ 0x62 ∷ 0x63 ∷ []) × (line (r .port) ≡ true))
 unfolding run step addressed readRegister writeRegister writeIer inputOf receives settled ierStored isHigh lsrReady isLoop
 one-byte-an-interrupt = (refl, (refl, refl))

@@ -10,11 +10,11 @@ use lib.Seq.{getD-set-other}
 use lib.Dec.{lit<}
 use Rattle.serial.specs.Port.{Port}
 use Rattle.ring.specs.Ring.{queue}
-use Rattle.serial.specs.Layout.{size, places, startOf, countOf, portOf}
-use Rattle.serial.proofs.Bounds.{memory-fits}
+use Rattle.serial.specs.Layout.{places, startOf, countOf, portOf}
+use Rattle.serial.proofs.Bounds.{memory-fits, size-fits}
 use Rattle.runs.specs.Run.{Op, run}
 use Rattle.runs.specs.Places.{placeOf, Alike}
-use Rattle.runs.proofs.Conserved.{never-more}
+use Rattle.runs.proofs.Conserved.{bounded}
 
 -- Two ports that agree and get the same operations answer the same.
 pub same-answers : (p q : Port) (os : List Op) → p ≡ q → run p os .answers ≡ run q os .answers
@@ -37,16 +37,10 @@ queue-alike places ring ring′ (suc n) start start′ h =
     next : (start k : ℕ) → start + suc k ≡ start + 1 + k
     next start k = omega arith
 
--- From any bytes: never more wait than the size.
-memory-size : (regs pos ring : List ℕ) → portOf regs pos ring .size ≡ size
-unfolding portOf
-memory-size regs pos ring = refl
-
-pub memory-never-more : (regs pos ring : List ℕ) (os : List Op) → length (run (portOf regs pos ring) os .port .waiting) ≤ size
+-- From any bytes: never more wait than the ring has places.
+pub memory-never-more : (regs pos ring : List ℕ) (os : List Op) → length (run (portOf regs pos ring) os .port .waiting) ≤ places
 memory-never-more regs pos ring os =
-    let s = memory-size regs pos ring in
-    let f = memory-fits regs pos ring in
-    omega (arith, never-more (portOf regs pos ring) os (omega arith))
+    omega (arith, memory-fits regs pos ring, size-fits regs pos ring, bounded (portOf regs pos ring) os)
 
 -- Memories with the same registers and the same bytes waiting are the same port, wherever the bytes lie and whatever lies elsewhere ..
 pub alike : (regs pos ring regs′ pos′ ring′ : List ℕ) → Alike regs pos ring regs′ pos′ ring′
@@ -55,7 +49,7 @@ unfolding portOf
 alike regs pos ring regs′ pos′ ring′ a =
     let r = a .registers in
     let q = queue-alike places ring ring′ (countOf pos) (startOf pos) (startOf pos′) (a .bytes) in
-    rw (r 0 (lit< tt), r 1 (lit< tt), r 2 (lit< tt), r 3 (lit< tt), r 4 (lit< tt), r 5 (lit< tt), r 6 (lit< tt), r 7 (lit< tt), r 8 (lit< tt), q, a .count)
+    rw (r 0 (lit< tt), r 1 (lit< tt), r 2 (lit< tt), r 3 (lit< tt), r 4 (lit< tt), r 5 (lit< tt), r 6 (lit< tt), r 7 (lit< tt), r 8 (lit< tt), a .size, q, a .count)
 
 -- .. so they answer every run alike ..
 pub alike-answers : (regs pos ring regs′ pos′ ring′ : List ℕ) (os : List Op) → Alike regs pos ring regs′ pos′ ring′
@@ -67,4 +61,4 @@ pub spare : (regs pos ring : List ℕ) (i v : ℕ) → ((k : ℕ) → k < countO
     → portOf regs pos (set ring i v) ≡ portOf regs pos ring
 spare regs pos ring i v h =
     alike regs pos (set ring i v) regs pos ring
-    (record { registers = λ j l. refl; count = refl; bytes = λ k l. getD-set-other ring i (placeOf pos k) v 0 (h k l) })
+    (record { registers = λ j l. refl; size = refl; count = refl; bytes = λ k l. getD-set-other ring i (placeOf pos k) v 0 (h k l) })

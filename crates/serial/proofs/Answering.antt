@@ -6,7 +6,7 @@ use lib.ListN.{length}
 use Rattle.serial.specs.Port.{Port}
 use Rattle.serial.specs.Layout.{places, startOf, countOf, portOf, unusedOf, sparePositions}
 use Rattle.serial.specs.Calls.{Answers}
-use Rattle.serial.proofs.Registers.{Stored, same-registers}
+use Rattle.serial.proofs.Registers.{Stored, spare-stays, same-registers}
 use Rattle.ring.proofs.Laws.{queue-length}
 
 pub waiting-length : (regs pos ring : List ℕ) → length (portOf regs pos ring .waiting) ≡ countOf pos
@@ -23,7 +23,7 @@ module _ {regs pos ring : List ℕ} {r : ℕ} {port : Port} {word : ℕ} where
     answer = a;
     holds = e;
     unusedBytesKept = refl;
-    sparesKept = (k .spare, refl);
+    sparesKept = (spare-stays k, refl);
     unchangedIfSamePort = λ s. (same-registers regs pos ring regs′ pos ring n k (e ∙ s), (refl, refl));
   }
 
@@ -34,7 +34,7 @@ module _ {regs pos ring : List ℕ} {r : ℕ} {port : Port} {word : ℕ} where
     answer = a;
     holds = e;
     unusedBytesKept = k;
-    sparesKept = (s .spare, p);
+    sparesKept = (spare-stays s, p);
     unchangedIfSamePort =
         λ same. absurd
         (d (sym (waiting-length regs′ pos′ ring′) ∙ ap (λ (p : Port). length (p .waiting)) (e ∙ same) ∙ waiting-length regs pos ring));

@@ -1,4 +1,4 @@
--- What a host may rely on: a port that holds too much does not exist, and a word comes apart again.
+-- What a host may rely on: no port holds more than the ring, and a word comes apart again.
 use mathlib.Core.Path.{_≡_, refl, _∙_}
 use mathlib.Core.Logic.{_⊎_, inl, inr}
 use mathlib.Core.Bool.{Bool, true, false, cond}
@@ -9,22 +9,23 @@ use lib.ListN.{length}
 use Rattle.common.proofs.Words.{Parts, parts}
 use Rattle.serial.specs.Port.{Port, Register, RBR-THR, IER, IIR-FCR, LCR, MCR, LSR, MSR, SCR, DLL, DLM, reserved, Out, Input}
 use Rattle.serial.specs.Port.{inLoop, writeLine, writeLoop, writeIer, writeRegister}
-use Rattle.serial.specs.Layout.{size, portOf, spareRegisters, freshSpareRegisters}
+use Rattle.serial.specs.Layout.{places, portOf, spareRegisters, freshSpareRegisters}
 use Rattle.serial.specs.Calls.{readWord, writeWord, inputWord, SparesKept, MakesFresh}
+use Rattle.serial.proofs.Sizes.{size-few}
 use Rattle.serial.proofs.Answering.{waiting-length}
 
--- Whatever the bytes, no more wait than the port's size.
-pub never-over : (regs pos ring : List ℕ) → length (portOf regs pos ring .waiting) ≤ portOf regs pos ring .size
-unfolding portOf
-never-over regs pos ring = omega (arith, waiting-length regs pos ring)
-
-pub memory-fits : (regs pos ring : List ℕ) → length (portOf regs pos ring .waiting) ≤ size
+-- Whatever the bytes, no more wait than the ring has places, and no port has room for more.
+pub memory-fits : (regs pos ring : List ℕ) → length (portOf regs pos ring .waiting) ≤ places
 memory-fits regs pos ring = omega (arith, waiting-length regs pos ring)
 
+pub size-fits : (regs pos ring : List ℕ) → portOf regs pos ring .size ≤ places
+unfolding portOf
+size-fits regs pos ring = size-few regs
+
 -- From a fresh port on the spare registers stay 0, over every call that keeps them.
-pub spares-stay-zero : (regs pos regs′ pos′ : List ℕ) → MakesFresh regs pos → SparesKept regs pos regs′ pos′
+pub spares-stay-zero : (size : ℕ) (regs pos regs′ pos′ : List ℕ) → MakesFresh size regs pos → SparesKept regs pos regs′ pos′
     → spareRegisters regs′ ≡ freshSpareRegisters
-spares-stay-zero regs pos regs′ pos′ fresh kept = kept .0 ∙ fresh .sparesZero
+spares-stay-zero size regs pos regs′ pos′ fresh kept = kept .0 ∙ fresh .sparesZero
 
 -- A write sends its value or nothing.
 pub sent-value : (p : Port) (g : Register) (value : ℕ) → (writeRegister p g value .sent ≡ []) ⊎ (writeRegister p g value .sent ≡ value ∷ [])

@@ -6,12 +6,12 @@ use Prim.Native.Nat.{ℕ, zero, suc, min}
 use native.Mathlib.Omega.{arith}
 use lib.Dec.{eqb}
 use lib.ListN.{getD, set}
-use lib.Seq.{set-getD}
+use lib.Seq.{set-getD, getD-set-other}
 use borrow.Author.Tests.{ne-eqb}
 use Rattle.common.specs.Lists.{some}
 use Rattle.ring.specs.Ring.{queue}
 use Rattle.line_status.specs.LineStatus.{lsrAfterRead}
-use Rattle.serial.specs.Layout.{size, places, startOf, portOf}
+use Rattle.serial.specs.Layout.{places, startOf, portOf}
 use Rattle.serial.specs.Inside.{WaitAfterRead}
 
 -- ---- IIR stays where it is to become what it is
@@ -19,15 +19,20 @@ use Rattle.serial.specs.Inside.{WaitAfterRead}
 pub stays : (regs : List ℕ) {new : ℕ} → new ≡ getD regs 2 0 → regs ≡ set regs 2 new
 stays regs e = sym (set-getD regs 2 0) ∙ rw e
 
+-- ---- LSR stays where IIR is stored
+
+pub lsr-stays : (regs : List ℕ) (iir : ℕ) → getD (set regs 2 iir) 5 0 ≡ getD regs 5 0
+lsr-stays regs iir = getD-set-other regs 2 5 iir 0 (λ x. omega arith)
+
 -- ---- Whether a byte waits
 
 pub waits-is : (regs pos ring : List ℕ) → some (portOf regs pos ring .waiting) ≡ not (eqb (getD pos 1 0) 0)
 unfolding portOf queue
 waits-is regs pos ring = go (getD pos 1 0)
   where
-    go : (n : ℕ) → some (queue places ring (startOf pos) (min n size)) ≡ not (eqb n 0)
+    go : (n : ℕ) → some (queue places ring (startOf pos) (min n places)) ≡ not (eqb n 0)
     go zero = refl
-    go (suc n) = let k : min (suc n) size ≡ suc (min n 63) = omega arith in rw (k, ne-eqb (suc n) 0 (λ z. omega arith))
+    go (suc n) = let k : min (suc n) places ≡ suc (min n 1023) = omega arith in rw (k, ne-eqb (suc n) 0 (λ z. omega arith))
 
 -- ---- LSR by the number of bytes that are left
 

@@ -12,6 +12,7 @@ use Rattle.interrupts.specs.Calls.{Quiet}
 use Rattle.interrupts.proofs.Laws.{quiet-sent, quiet-came}
 use Rattle.line_status.specs.LineStatus.{lsrReady}
 use Rattle.serial.specs.Inside.{Emptied, Received}
+use Rattle.serial.proofs.Leaves.{lsr-stays}
 
 module _ (regs : List ℕ) (quiet : Quiet (getD regs 1 0)) where
   pub quiet-emptied : (waits : Bool) → Emptied regs waits regs 0
@@ -19,12 +20,12 @@ module _ (regs : List ℕ) (quiet : Quiet (getD regs 1 0)) where
       let q = quiet-sent (getD regs 1 0) quiet (getD regs 2 0) waits in
       record { stored = sym (rw (q .0) (set-getD regs 2 0)); raised = sym (q .1); once = omega arith }
 
-  pub quiet-received : (pos : List ℕ) (n : ℕ) {regs₁ : List ℕ} {lsr : ℕ}
-      → regs₁ ≡ set regs 2 (cond (not (eqb (getD pos 1 0) 0)) (getD regs 2 0) nonePending)
-      → lsr ≡ lsrReady (getD regs 5 0) → Received regs pos n (set regs₁ 5 lsr) (set pos 1 n) 0
-  quiet-received pos n e l =
+  pub quiet-received : (pos : List ℕ) (n : ℕ) (waits : Bool) → waits ≡ not (eqb (getD pos 1 0) 0) → {regs₁ : List ℕ} {lsr : ℕ}
+      → regs₁ ≡ set regs 2 (cond waits (getD regs 2 0) nonePending)
+      → lsr ≡ lsrReady (getD regs₁ 5 0) → Received regs pos n (set regs₁ 5 lsr) (set pos 1 n) 0
+  quiet-received pos n waits w e l =
       let q = quiet-came (getD regs 1 0) quiet (getD regs 2 0) (not (eqb (getD pos 1 0) 0)) in
-      record { stored = rw (e, l, q .0) refl; counted = refl; raised = sym (q .1); once = omega arith }
+      record { stored = rw (e, l, e, lsr-stays regs _, w, q .0) refl; counted = refl; raised = sym (q .1); once = omega arith }
 
 -- IIR as the first bytes come, and as more do
 pub first-comes : (regs : List ℕ) (waits : Bool) → waits ≡ false

@@ -1,14 +1,16 @@
--- The lent memory taken apart: nine registers and two positions, and behind them what is spare.
+-- The lent memory taken apart: nine registers and two positions, and behind them what no access changes.
 use mathlib.Core.Path.{_≡_, refl, sym, ap, ap₂, _∙_}
+use mathlib.Core.Bool.{true, false}
 use mathlib.Core.List.{List, [], _∷_, _++_}
 use Prim.Native.Nat.{ℕ, _≤_, _<_}
 use native.Mathlib.Omega.{arith}
-use lib.ListN.{length, set, length-set}
+use lib.ListN.{length, set, take, drop, length-set}
 use lib.Seq.{drop-set-lt}
-use Rattle.serial.specs.Port.{Port, Settings, withSettings, withReceiver, putIer}
+use Rattle.serial.specs.Port.{Port, Settings, isSize, withSettings, withReceiver, putIer}
+use Rattle.common.specs.Answer.{refusedBit}
 use Rattle.ring.specs.Ring.{queue}
-use Rattle.serial.specs.Layout.{size, places, startOf, countOf, portOf, spareRegisters}
-use Rattle.serial.specs.Calls.{MakesFresh}
+use Rattle.serial.specs.Layout.{places, sizeBy, startOf, countOf, portOf, spareRegisters}
+use Rattle.serial.specs.Calls.{MakesFresh, Makes}
 
 nine : (P : List ℕ → Type 0) → ((a b c d e f g h i : ℕ) (l : List ℕ) → P (a ∷ b ∷ c ∷ d ∷ e ∷ f ∷ g ∷ h ∷ i ∷ l)) → (l : List ℕ)
     → length l ≡ 16 → P l
@@ -39,17 +41,20 @@ seven P t (a ∷ b ∷ c ∷ d ∷ []) n = absurd (omega arith)
 seven P t (a ∷ b ∷ c ∷ d ∷ e ∷ []) n = absurd (omega arith)
 seven P t (a ∷ b ∷ c ∷ d ∷ e ∷ f ∷ []) n = absurd (omega arith)
 
--- ---- Registers are stored, and what is spare stays
+-- ---- Registers are stored, and the others stay: the spare ones, and the one that tells the size
 
 pub record Stored (regs regs′ : List ℕ) : Type 0 where
   pub long : length regs′ ≡ length regs
-  pub spare : spareRegisters regs′ ≡ spareRegisters regs
+  pub others : drop 9 regs′ ≡ drop 9 regs
+
+pub spare-stays : {regs regs′ : List ℕ} → Stored regs regs′ → spareRegisters regs′ ≡ spareRegisters regs
+spare-stays s = ap (take 6) (s .others)
 
 pub one-stored : (regs : List ℕ) (k v : ℕ) → k < 9 → Stored regs (set regs k v)
-one-stored regs k v h = record { long = length-set regs k v; spare = drop-set-lt 9 regs k v h }
+one-stored regs k v h = record { long = length-set regs k v; others = drop-set-lt 9 regs k v h }
 
 pub then-stored : {regs regs₁ : List ℕ} (k v : ℕ) → k < 9 → Stored regs regs₁ → Stored regs (set regs₁ k v)
-then-stored {regs} {regs₁} k v h s = let t = one-stored regs₁ k v h in record { long = t .long ∙ s .long; spare = t .spare ∙ s .spare }
+then-stored {regs} {regs₁} k v h s = let t = one-stored regs₁ k v h in record { long = t .long ∙ s .long; others = t .others ∙ s .others }
 
 -- ---- The port knows every register
 
@@ -58,14 +63,14 @@ bytes p =
     let s = p .settings in
     s .dll ∷ s .ier ∷ p .iir ∷ s .lcr ∷ s .mcr ∷ p .lsr ∷ p .msr ∷ s .scr ∷ s .dlm ∷ []
 
-bytes-of : (regs pos ring : List ℕ) → length regs ≡ 16 → bytes (portOf regs pos ring) ++ spareRegisters regs ≡ regs
+bytes-of : (regs pos ring : List ℕ) → length regs ≡ 16 → bytes (portOf regs pos ring) ++ drop 9 regs ≡ regs
 unfolding portOf bytes
-bytes-of regs pos ring = nine (λ l. bytes (portOf l pos ring) ++ spareRegisters l ≡ l) (λ a b c d e f g h i l. refl) regs
+bytes-of regs pos ring = nine (λ l. bytes (portOf l pos ring) ++ drop 9 l ≡ l) (λ a b c d e f g h i l. refl) regs
 
 pub same-registers : (regs pos ring regs′ pos′ ring′ : List ℕ) → length regs ≡ 16 → Stored regs regs′
     → portOf regs′ pos′ ring′ ≡ portOf regs pos ring → regs′ ≡ regs
 same-registers regs pos ring regs′ pos′ ring′ n s e =
-    sym (bytes-of regs′ pos′ ring′ (s .long ∙ n)) ∙ ap₂ _++_ (ap bytes e) (s .spare) ∙ bytes-of regs pos ring n
+    sym (bytes-of regs′ pos′ ring′ (s .long ∙ n)) ∙ ap₂ _++_ (ap bytes e) (s .others) ∙ bytes-of regs pos ring n
 
 -- ---- A store to a register is the port with that register
 
@@ -103,7 +108,7 @@ module _ (regs pos ring : List ℕ) (n : length regs ≡ 16) where
 
 -- ---- The positions
 
-module _ (pos : List ℕ) (k : ℕ) (n : length pos ≡ 4) (h : k ≤ size) where
+module _ (pos : List ℕ) (k : ℕ) (n : length pos ≡ 4) (h : k ≤ places) where
   pub counted : (startOf (set pos 1 k) ≡ startOf pos) × (countOf (set pos 1 k) ≡ k)
   counted = two (λ l. (startOf (set l 1 k) ≡ startOf l) × (countOf (set l 1 k) ≡ k)) (λ a b l. (refl, omega arith)) pos n
 
@@ -112,15 +117,15 @@ module _ (pos : List ℕ) (k : ℕ) (n : length pos ≡ 4) (h : k ≤ size) wher
 
 -- ---- Sixteen stores and four make a fresh port
 
-module _ (regs pos : List ℕ) (n : length regs ≡ 16) (m : length pos ≡ 4) where
+module _ (regs pos : List ℕ) (n : length regs ≡ 16) (m : length pos ≡ 4) (told : ℕ) where
   abbrev nineStored : List ℕ → List ℕ
   nineStored l = set (set (set (set (set (set (set (set (set l 0 0x0c) 1 0) 2 1) 3 3) 4 8) 5 0x60) 6 0xb0) 7 0) 8 0
 
   abbrev allStored : List ℕ → List ℕ
-  allStored l = set (set (set (set (set (set (set (nineStored l) 9 0) 10 0) 11 0) 12 0) 13 0) 14 0) 15 0
+  allStored l = set (set (set (set (set (set (set (nineStored l) 9 0) 10 0) 11 0) 12 0) 13 0) 14 0) 15 told
 
   abbrev freshRegs : List ℕ
-  freshRegs = 0x0c ∷ 0 ∷ 1 ∷ 3 ∷ 8 ∷ 0x60 ∷ 0xb0 ∷ 0 ∷ 0 ∷ 0 ∷ 0 ∷ 0 ∷ 0 ∷ 0 ∷ 0 ∷ 0 ∷ []
+  freshRegs = 0x0c ∷ 0 ∷ 1 ∷ 3 ∷ 8 ∷ 0x60 ∷ 0xb0 ∷ 0 ∷ 0 ∷ 0 ∷ 0 ∷ 0 ∷ 0 ∷ 0 ∷ 0 ∷ told ∷ []
 
   registers : allStored regs ≡ freshRegs
   registers =
@@ -135,6 +140,14 @@ module _ (regs pos : List ℕ) (n : length regs ≡ 16) (m : length pos ≡ 4) w
   four (a ∷ b ∷ c ∷ []) e = absurd (omega arith)
   four (a ∷ b ∷ c ∷ d ∷ f ∷ l) e = absurd (omega arith)
 
-  pub makes-fresh : MakesFresh (allStored regs) (set (set (set (set pos 0 0) 1 0) 2 0) 3 0)
+  pub makes-fresh : MakesFresh (sizeBy told) (allStored regs) (set (set (set (set pos 0 0) 1 0) 2 0) 3 0)
   unfolding portOf queue
   makes-fresh = rw (registers, four pos m) (record { holds = λ ring. refl; placed = refl; sparesZero = refl })
+
+module _ (size : ℕ) (regs pos : List ℕ) where
+  pub makes : {made : ℕ} {regs′ pos′ : List ℕ} → isSize size ≡ true → made ≡ size → MakesFresh made regs′ pos′
+      → Makes size regs pos regs′ pos′ 0
+  makes e f m = rw (e, ← f) (refl, m)
+
+  pub refuses-size : isSize size ≡ false → Makes size regs pos regs pos refusedBit
+  refuses-size e = rw e (refl, (refl, refl))

@@ -4,8 +4,8 @@ use mathlib.Core.Path.{_≡_}
 use mathlib.Core.List.{List, [], _∷_}
 use mathlib.Core.Bool.{Bool, cond}
 use Rattle.common.specs.Answer.{refusedBit, sentBit, dataReadBit, deliveredBit, noneLeftBit, loopedBit, droppedBit, oneRaise}
-use Rattle.serial.specs.Port.{Port, Events, Out, Input, fresh, roomOf, line}
-use Rattle.serial.specs.Layout.{size, portOf, unusedOf, spareRegisters, sparePositions, freshSpareRegisters, freshSparePositions}
+use Rattle.serial.specs.Port.{Port, Events, Out, Input, isSize, fresh, roomOf, line}
+use Rattle.serial.specs.Layout.{portOf, unusedOf, spareRegisters, sparePositions, freshSpareRegisters, freshSparePositions}
 
 -- ---- The words: `common`'s Answer lays them out
 
@@ -63,15 +63,23 @@ abbrev pub TakesInput : (Port → Input) → List ℕ → List ℕ → List ℕ 
 TakesInput access regs pos ring regs′ pos′ ring′ r =
     let i = access (portOf regs pos ring) in Answers regs pos ring regs′ pos′ ring′ r (i .port) (inputWord i)
 
--- A fresh port, whatever the ring holds; it starts at the ring's first place. What is spare is 0.
-pub record MakesFresh (regs′ pos′ : List ℕ) : Type 0 where
+-- A fresh port of a size, whatever the ring holds; it starts at the ring's first place. What is spare is 0.
+pub record MakesFresh (size : ℕ) (regs′ pos′ : List ℕ) : Type 0 where
   pub holds : (ring : List ℕ) → portOf regs′ pos′ ring ≡ fresh size
   pub placed : pos′ ≡ 0 ∷ 0 ∷ freshSparePositions
   pub sparesZero : spareRegisters regs′ ≡ freshSpareRegisters
 
--- The room left, whatever the registers and the ring hold.
-abbrev pub HasRoom : List ℕ → ℕ → Type 0
-HasRoom pos r = (regs ring : List ℕ) → r ≡ roomOf (portOf regs pos ring)
+-- A size with which no port is made is refused, and nothing changes.
+abbrev pub Makes : ℕ → List ℕ → List ℕ → List ℕ → List ℕ → ℕ → Type 0
+Makes size regs pos regs′ pos′ r =
+    cond (isSize size) ((r ≡ 0) × MakesFresh size regs′ pos′) ((r ≡ refusedBit) × ((regs′ ≡ regs) × (pos′ ≡ pos)))
+
+-- The size, whatever the positions and the ring hold; the room left, whatever the ring holds.
+abbrev pub HasSize : List ℕ → ℕ → Type 0
+HasSize regs r = (pos ring : List ℕ) → r ≡ portOf regs pos ring .size
+
+abbrev pub HasRoom : List ℕ → List ℕ → ℕ → Type 0
+HasRoom regs pos r = (ring : List ℕ) → r ≡ roomOf (portOf regs pos ring)
 
 -- Whether the interrupt line is high, whatever the ring holds.
 abbrev pub IsHigh : List ℕ → List ℕ → Bool → Type 0

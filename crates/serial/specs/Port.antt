@@ -1,7 +1,7 @@
 -- The 16550 serial port: its registers, the bytes that wait in its receiver, and what each access does.
 use Prim.Native.Nat.{ℕ, _+_, _-_, min}
 use mathlib.Core.List.{List, [], _∷_, _++_, tail}
-use mathlib.Core.Bool.{Bool, true, false, cond, not}
+use mathlib.Core.Bool.{Bool, true, false, cond, not, _||_}
 use lib.ListN.{length, take}
 use lib.Dec.{ltb, eqb}
 use Rattle.common.specs.Bits.{on}
@@ -57,6 +57,11 @@ isOpen p = on (p .settings .lcr) 0x80
 
 abbrev pub inLoop : Port → Bool
 inLoop p = isLoop (p .settings .mcr)
+
+-- The sizes with which a port is made: the powers of two from 16 to 1,024.
+abbrev pub isSize : ℕ → Bool
+isSize size =
+    eqb size 16 || (eqb size 32 || (eqb size 64 || (eqb size 128 || (eqb size 256 || (eqb size 512 || eqb size 1024)))))
 
 -- A fresh port. A master reset clears LCR and MCR and leaves the divisor: DIFFERENCES, "serial-reset-values".
 abbrev pub fresh : ℕ → Port

@@ -22,17 +22,30 @@ use memory::Pos;
 use memory::Regs;
 use memory::Ring;
 use memory::SCR;
+use memory::SIZE;
 use memory::START;
 ghost use mathlib.Core.Path.{_≡_};
 ghost use mathlib.Core.Bool.{true, false};
 ghost use Prim.Native.Nat.{_≤_};
 ghost use Rattle.common.specs.Bits.{on};
+ghost use Rattle.serial.specs.Layout.{sizeBy};
 ghost use Rattle.serial.specs.Port.{readOf, writeOf, inputOf};
-ghost use Rattle.serial.specs.Calls.{Reads, Writes, TakesInput, MakesFresh, HasRoom, IsHigh};
+ghost use Rattle.serial.specs.Calls.{Reads, Writes, TakesInput, MakesFresh, Makes, HasSize, HasRoom, IsHigh};
 
-// A fresh port; its ring may hold anything.
-pub fn init(regs: &mut Regs, pos: &mut Pos)
-    ensures { λ r. ⌜ MakesFresh (now (regs .exit)) (now (pos .exit)) ⌝ }
+// A fresh port in which `size` bytes may wait; its ring may hold anything.
+pub fn init(regs: &mut Regs, pos: &mut Pos, size: u32) -> u32
+    ensures { λ r. ⌜ Makes size (now (regs .entry)) (now (pos .entry)) (now (regs .exit)) (now (pos .exit)) r ⌝ }
+{
+    if waiting::is_size(size) {
+        make(regs, pos, waiting::register_for(size));
+        return 0;
+    }
+    REFUSED
+}
+
+// A fresh port whose size `told` tells.
+fn make(regs: &mut Regs, pos: &mut Pos, told: u8)
+    ensures { λ r. ⌜ MakesFresh (sizeBy told) (now (regs .exit)) (now (pos .exit)) ⌝ }
 {
     memory::regs_len(regs);
     memory::pos_len(pos);
@@ -51,7 +64,7 @@ pub fn init(regs: &mut Regs, pos: &mut Pos)
     regs[12] = 0;
     regs[13] = 0;
     regs[14] = 0;
-    regs[15] = 0;
+    regs[SIZE] = told;
     pos[START] = 0;
     pos[COUNT] = 0;
     pos[2] = 0;
@@ -163,23 +176,36 @@ pub fn input(regs: &mut Regs, pos: &mut Pos, ring: &mut Ring, input: &[u8]) -> u
     if len == 0 {
         return 0;
     }
-    let n = waiting::count(pos);
-    if n == memory::SIZE {
+    let n = pos[COUNT];
+    let size = waiting::size(regs);
+    if size <= n {
         return REFUSED;
     }
     memory::regs_len(regs);
     memory::pos_len(pos);
-    let k = waiting::fitting(n, len);
+    let k = waiting::fitting(size - n, len);
     ring::fill(ring, pos[START], n, input, k);
     let taken = k as u32;
     taken + ONE_RAISE * receiver::receive(regs, pos, n + taken)
 }
 
-// How many more bytes the port can take.
-pub fn room(pos: &Pos) -> u32
-    ensures { λ r. ⌜ HasRoom (now (pos .entry)) r ⌝ }
+// How many bytes may wait.
+pub fn size(regs: &Regs) -> u32
+    ensures { λ r. ⌜ HasSize (now (regs .entry)) r ⌝ }
 {
-    memory::SIZE - waiting::count(pos)
+    waiting::size(regs)
+}
+
+// How many more bytes the port can take.
+pub fn room(regs: &Regs, pos: &Pos) -> u32
+    ensures { λ r. ⌜ HasRoom (now (regs .entry)) (now (pos .entry)) r ⌝ }
+{
+    let n = pos[COUNT];
+    let size = waiting::size(regs);
+    if n < size {
+        return size - n;
+    }
+    0
 }
 
 // Whether the interrupt line is high now.

@@ -6,7 +6,7 @@ ghost use mathlib.Core.Logic.{_↔_};
 ghost use mathlib.Core.Bool.{true};
 ghost use Rattle.serial.specs.Layout.{places, spareRegisters, freshSpareRegisters};
 
-// Registers 9 to 15 are spare.
+// Registers 9 to 14 are spare.
 pub type Regs = [u8; 16];
 
 // Where the first waiting byte lies and how many wait; two are spare.
@@ -16,9 +16,6 @@ pub type Pos = [u32; 4];
 pub type Ring = ring::Ring;
 
 pub const PLACES: u32 = ring::PLACES;
-
-// How many bytes may wait.
-pub const SIZE: u32 = 64;
 
 // A register lies at its offset; the divisor's two bytes share offsets and lie at the ends.
 pub const DLL: usize = 0;
@@ -39,10 +36,10 @@ pub const SCR: usize = 7;
 
 pub const DLM: usize = 8;
 
-// From here on the registers are spare.
+// From here on the registers are spare, up to the one that tells the size.
 const SPARE: usize = 9;
 
-const REGS: usize = 16;
+pub const SIZE: usize = 15;
 
 pub const START: usize = 0;
 
@@ -73,7 +70,7 @@ pub fn are_spares_zero(regs: &Regs) -> bool
 {
     regs_len(regs);
     let mut i = SPARE;
-    while i < REGS {
+    while i < SIZE {
         if regs[i] != 0 {
             return false;
         }

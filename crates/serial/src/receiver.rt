@@ -13,10 +13,12 @@ use common::answer::DATA_READ;
 use common::answer::DELIVERED;
 use common::answer::NONE_LEFT;
 ghost use mathlib.Core.Path.{_≡_};
-ghost use mathlib.Core.Bool.{true};
-ghost use Prim.Native.Nat.{_+_};
+ghost use mathlib.Core.Bool.{true, not};
+ghost use Prim.Native.Nat.{_+_, _≤_};
+ghost use lib.Dec.{eqb};
 ghost use lib.ListN.{getD};
 ghost use Rattle.interrupts.specs.Calls.{Quiet};
+ghost use Rattle.serial.specs.Layout.{places};
 ghost use Rattle.serial.specs.Port.{readEvents, readRbr};
 ghost use Rattle.serial.specs.Calls.{eventBits, Reads};
 ghost use Rattle.serial.specs.Inside.{Received, WaitAfterRead};
@@ -83,25 +85,29 @@ pub fn receive(regs: &mut Regs, pos: &mut Pos, n: u32) -> u32
 {
     memory::regs_len(regs);
     memory::pos_len(pos);
-    let lsr = regs[LSR];
     let waits = pos[COUNT] != 0;
     pos[COUNT] = n;
     let iir = regs[IIR];
     let told = interrupts::data_came(regs[IER], iir, waits);
     iir::store(regs, told.changes, told.iir);
-    regs[LSR] = line_status::ready(lsr);
+    regs[LSR] = line_status::ready(regs[LSR]);
     told.raises
 }
 
-// The same where no kind of interrupt is enabled, as while a driver polls: nothing is raised.
-pub fn receive_quietly(regs: &mut Regs, pos: &mut Pos, n: u32)
+// The same for one byte where no kind of interrupt is enabled, as while a driver polls: nothing is raised.
+// `waits` says whether bytes waited.
+pub fn receive_quietly(regs: &mut Regs, pos: &mut Pos, waits: bool)
     requires { ⌜ Quiet (getD (now regs) 1 0) ⌝ }
-    ensures { λ r. ⌜ Received (now (regs .entry)) (now (pos .entry)) n (now (regs .exit)) (now (pos .exit)) 0 ⌝ }
+    requires { ⌜ waits ≡ not (eqb (getD (now pos) 1 0) 0) ⌝ }
+    requires { ⌜ getD (now pos) 1 0 ≤ places ⌝ }
+    ensures { λ r. ⌜
+        Received (now (regs .entry)) (now (pos .entry)) (getD (now (pos .entry)) 1 0 + 1)
+        (now (regs .exit)) (now (pos .exit)) 0
+        ⌝ }
 {
     memory::regs_len(regs);
     memory::pos_len(pos);
-    let lsr = regs[LSR];
-    iir::none_if_first(regs, pos[COUNT] != 0);
-    pos[COUNT] = n;
-    regs[LSR] = line_status::ready(lsr);
+    iir::none_if_first(regs, waits);
+    pos[COUNT] = pos[COUNT] + 1;
+    regs[LSR] = line_status::ready(regs[LSR]);
 }

@@ -44,9 +44,10 @@ fn write_loop(regs: &mut Regs, pos: &mut Pos, ring: &mut Ring, value: u8) -> u32
     }
     memory::regs_len(regs);
     memory::pos_len(pos);
-    let n = waiting::count(pos);
-    let raises = emptied(regs, pos[COUNT] != 0);
-    if n == memory::SIZE {
+    let n = pos[COUNT];
+    let size = waiting::size(regs);
+    let raises = emptied(regs, n != 0);
+    if size <= n {
         return DROPPED + ONE_RAISE * raises;
     }
     ring::push(ring, pos[START], n, value);
@@ -61,12 +62,12 @@ fn loop_quietly(regs: &mut Regs, pos: &mut Pos, ring: &mut Ring, value: u8) -> u
 {
     memory::regs_len(regs);
     memory::pos_len(pos);
-    let n = waiting::count(pos);
-    if n == memory::SIZE {
+    let n = pos[COUNT];
+    if waiting::size(regs) <= n {
         return DROPPED;
     }
     ring::push(ring, pos[START], n, value);
-    receiver::receive_quietly(regs, pos, n + 1);
+    receiver::receive_quietly(regs, pos, n != 0);
     LOOPED
 }
 

@@ -1,5 +1,5 @@
 -- What the accesses say, one law for each.
-use Prim.Native.Nat.{ℕ, _+_, _*_, _/_, _%_, _<_}
+use Prim.Native.Nat.{ℕ, _+_, _*_, _/_, _%_, _≤_, _<_}
 use mathlib.Core.Path.{_≡_, refl, ap, _∙_}
 use mathlib.Core.Logic.{_⊎_, inl, inr}
 use mathlib.Core.Bool.{Bool, true, false, cond}
@@ -10,13 +10,13 @@ use lib.Dec.{eqb}
 use lib.ListN.{length, getD}
 use Rattle.serial.specs.Port.{Port, Out, Input, readOf, writeOf, inputOf, isOpen, inLoop, hasRoom, takesNone, takesSome}
 use Rattle.serial.specs.Port.{addressed}
-use Rattle.serial.specs.Layout.{size, portOf}
+use Rattle.serial.specs.Layout.{places, portOf}
 use Rattle.common.specs.Answer.{sentBit, oneRaise}
 use Rattle.serial.specs.Calls.{Reads, Writes, TakesInput, writeWord, inputWord}
 use Rattle.words.specs.Hex.{digitsOf}
 use Rattle.words.specs.Put.{Puts}
 use Rattle.words.specs.Text.{text}
-use Rattle.serial.proofs.Bounds.{sent-value, silent-word, sent-word}
+use Rattle.serial.proofs.Bounds.{sent-value, silent-word, sent-word, size-fits}
 use Rattle.words.proofs.Putting.{both, instead}
 use Rattle.serial_words.specs.Inside.{sentPart, takenPart}
 use Rattle.serial_words.specs.Said.{raisesSay, sentSays, takenSays, portSays}
@@ -33,16 +33,16 @@ write-parts o value h (inr e) =
     (rw (ne-eqb (writeWord o / sentBit % 2) 0 (λ z. omega (arith, w .sent)), low, e) refl, w .raises)
 
 -- No more bytes are taken than there is room for.
-few-taken : (p : Port) (bytes : List ℕ) → p .size ≡ size → inputOf p bytes .taken < 0x1_0000
+few-taken : (p : Port) (bytes : List ℕ) → p .size ≤ places → inputOf p bytes .taken < 0x1_0000
 unfolding inputOf
-few-taken p bytes e = go (inLoop p) (eqb (length bytes) 0) (hasRoom p)
+few-taken p bytes h = go (inLoop p) (eqb (length bytes) 0) (hasRoom p)
   where
     go : (loops none room : Bool)
         → cond loops (takesNone p false)
         (cond none (takesNone p false) (cond room (takesSome p bytes) (takesNone p true))) .taken < 0x1_0000
     go true none room = omega arith
     go false true room = omega arith
-    go false false true = omega (arith, e)
+    go false false true = omega (arith, h)
     go false false false = omega arith
 
 input-parts : (i : Input) → i .taken < 0x1_0000
@@ -59,10 +59,6 @@ input-parts i h = go (i .full)
         (rw (m, lt-ltb (i .taken) 0x1_0000 h) refl, omega arith)
 
 -- ---- One access
-
-size-of : (regs pos ring : List ℕ) → portOf regs pos ring .size ≡ size
-unfolding portOf
-size-of regs pos ring = refl
 
 module _ {out o₁ o₂ out′ : List ℕ} {at a b r : ℕ} {regs pos ring regs′ pos′ : List ℕ} {word : ℕ} where
   pub reads : (offset : ℕ) → Reads (λ p. readOf p offset) regs pos ring regs′ pos′ word → Puts out at (text "r ") o₁ a
@@ -89,7 +85,7 @@ module _ {out o₁ o₂ out′ : List ℕ} {at a b r : ℕ} {regs pos ring regs�
       → Puts o₁ a (takenPart (word % oneRaise)) o₂ b → Puts o₂ b (raisesSay (word / oneRaise)) out′ r
       → DidInput bytes regs pos ring regs′ pos′ ring′ out at out′ r
   takes bytes c p q s =
-      let parts = input-parts (inputOf (portOf regs pos ring) bytes) (few-taken (portOf regs pos ring) bytes (size-of regs pos ring)) in
+      let parts = input-parts (inputOf (portOf regs pos ring) bytes) (few-taken (portOf regs pos ring) bytes (size-fits regs pos ring)) in
       record {
         says =
             both (both p (instead (ap (λ (w : ℕ). takenPart (w % oneRaise)) (c .answer) ∙ parts .0) q))

@@ -98,16 +98,16 @@ pub fn input(
     put_raises(out, b, took / ONE_RAISE)
 }
 
-pub fn room(pos: &Pos, out: &mut Block, at: usize) -> usize
+pub fn room(regs: &Regs, pos: &Pos, out: &mut Block, at: usize) -> usize
     requires { ⌜ at + 4096 ≤ 65536 ⌝ }
     ensures { λ r. ⌜
-        ((regs ring : List ℕ) →
-        Puts (now (out .entry)) at (roomSays (roomOf (portOf regs (now (pos .entry)) ring))) (now (out .exit)) r)
+        ((ring : List ℕ) →
+        Puts (now (out .entry)) at (roomSays (roomOf (portOf (now (regs .entry)) (now (pos .entry)) ring))) (now (out .exit)) r)
         ⌝ }
     ensures { λ r. ⌜ r ≤ at + 4096 ⌝ }
 {
     let a = put(out, at, b"room ");
-    let b = put_decimal(out, a, serial::room(pos));
+    let b = put_decimal(out, a, serial::room(regs, pos));
     put(out, b, b"\n")
 }
 

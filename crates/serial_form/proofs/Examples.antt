@@ -4,16 +4,15 @@ use mathlib.Core.List.{List, [], _∷_, _++_}
 use Prim.Native.Nat.{ℕ}
 use lib.ListN.{take}
 use Rattle.common.specs.Bytes.{bytesOf, valueOf}
-use Rattle.serial.specs.Layout.{freshSpareRegisters}
 use Rattle.common.specs.Forms.{tooShort, trailing, version, tooMany}
-use Rattle.serial_form.specs.Form.{refused, reads, formOf, readBehind, readVersion2, readForm}
+use Rattle.serial_form.specs.Form.{refused, reads, freshOthers, formOf, readBehind, readVersion2, readForm}
 
 -- A fresh port's registers.
 abbrev nine : List ℕ
 nine = 0x0c ∷ 0x00 ∷ 0x01 ∷ 0x03 ∷ 0x08 ∷ 0x60 ∷ 0xb0 ∷ 0x00 ∷ 0x00 ∷ []
 
 abbrev fresh : List ℕ
-fresh = nine ++ freshSpareRegisters
+fresh = nine ++ freshOthers
 
 -- Two bytes wait.
 abbrev form : List ℕ

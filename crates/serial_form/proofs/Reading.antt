@@ -8,9 +8,8 @@ use lib.ListN.{length, getD, take, drop}
 use lib.Seq.{drop-cons}
 use borrow.Author.Tests.{lt-ltb, le-ltb, ne-eqb}
 use Rattle.common.specs.Bytes.{valueOf}
-use Rattle.serial.specs.Layout.{size}
 use Rattle.common.specs.Forms.{tooShort, trailing, version, tooMany}
-use Rattle.serial_form.specs.Form.{refused, reads, current, versionIn, savedIn, countIn, readBehind, readVersion2, readForm}
+use Rattle.serial_form.specs.Form.{refused, reads, current, size, versionIn, savedIn, countIn, readBehind, readVersion2, readForm}
 
 -- ---- Behind the number
 

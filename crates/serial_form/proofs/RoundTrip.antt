@@ -12,9 +12,8 @@ use borrow.Author.Tests.{le-leb}
 use Rattle.common.specs.Bytes.{bytesOf, valueOf, Bytes}
 use Rattle.common.proofs.Bytes.{bytes-drop, bytes-of-value}
 use Rattle.serial_form.specs.Form.{Read, refused, reads, current, formOf, versionIn, registersIn, savedIn, countIn, readBehind}
-use Rattle.serial_form.specs.Form.{readForm}
-use Rattle.serial.specs.Layout.{size, spareRegisters, freshSpareRegisters}
-use Rattle.serial_form.specs.Calls.{written, areZero, hasNoSpare, Encodes, Decodes}
+use Rattle.serial_form.specs.Form.{size, others, freshOthers, readForm}
+use Rattle.serial_form.specs.Calls.{written, areZero, hasNoOther, Encodes, Decodes}
 use Rattle.serial_form.specs.Outcomes.{Comes, noVersion, otherVersion, cutOff, tooManyWait, tooFew, leftOver, whole}
 use Rattle.serial_form.proofs.Reading.{too-many, too-few, left-over, none-left, no-count, counted, no-version, known-version}
 use Rattle.serial_form.proofs.Reading.{other-version}
@@ -78,7 +77,7 @@ module _ (saved waiting : List ℕ) (long : length saved ≡ 16) where
   unfolding formOf bytesOf
   registers-back = take-at (take 9 saved) (bytesOf 2 (length waiting) ++ waiting) 9 (first-nine saved long)
 
-  pub saved-back : spareRegisters saved ≡ freshSpareRegisters → savedIn (formOf saved waiting) ≡ saved
+  pub saved-back : others saved ≡ freshOthers → savedIn (formOf saved waiting) ≡ saved
   saved-back z = rw (registers-back, sym z) (take-append-drop 9 saved)
 
   pub count-back : length waiting ≤ size → countIn (formOf saved waiting) ≡ length waiting
@@ -93,8 +92,8 @@ module _ (saved waiting : List ℕ) (long : length saved ≡ 16) where
   unfolding formOf bytesOf valueOf
   version-back = refl
 
-  -- where no spare register, which the form does not have, is other than 0
-  pub read-written : length waiting ≤ size → spareRegisters saved ≡ freshSpareRegisters
+  -- where no register that the form does not have is other than 0
+  pub read-written : length waiting ≤ size → others saved ≡ freshOthers
       → readForm (formOf saved waiting) ≡ reads saved waiting
   read-written h z =
       let few : countIn (formOf saved waiting) ≤ size = rw (count-back h) h in
@@ -115,8 +114,8 @@ module _ (form : List ℕ) where
   fits : {saved waiting : List ℕ} → Comes form (reads saved waiting) → (length saved ≡ 16) × (length waiting ≤ size)
   fits (whole v n e) = (simp (length-append, nine-there (omega arith)) (omega arith), simp length-drop (omega arith))
 
-  no-spare : {saved waiting : List ℕ} → Comes form (reads saved waiting) → spareRegisters saved ≡ freshSpareRegisters
-  no-spare (whole v n e) = drop-at (registersIn form) freshSpareRegisters 9 (nine-there (omega arith))
+  no-other : {saved waiting : List ℕ} → Comes form (reads saved waiting) → others saved ≡ freshOthers
+  no-other (whole v n e) = drop-at (registersIn form) freshOthers 9 (nine-there (omega arith))
 
   agrees : {saved waiting : List ℕ} → Comes form (reads saved waiting) → length form ≡ 13 + length waiting
   agrees (whole v n e) = simp length-drop (omega arith)
@@ -127,7 +126,7 @@ module _ (form : List ℕ) where
       let count : length (drop 13 form) ≡ countIn form = simp length-drop (omega arith) in
       let number : 2 ≤ length (drop 11 form) = simp length-drop (omega arith) in
       let front : bytesOf 2 current ≡ take 2 form = rw v at (two-back form (omega arith) b) in
-      rw (take-at (registersIn form) freshSpareRegisters 9 (nine-there (omega arith)), front, count, two-back (drop 11 form) number (bytes-drop 11 form b), ← drop-drop 2 11 form, take-append-drop 2 (drop 11 form))
+      rw (take-at (registersIn form) freshOthers 9 (nine-there (omega arith)), front, count, two-back (drop 11 form) number (bytes-drop 11 form b), ← drop-drop 2 11 form, take-append-drop 2 (drop 11 form))
       (rw (← drop-drop 9 2 form, take-append-drop 9 (drop 2 form)) (take-append-drop 2 form))
 
 module _ (form saved waiting : List ℕ) (read : readForm form ≡ reads saved waiting) where
@@ -137,8 +136,8 @@ module _ (form saved waiting : List ℕ) (read : readForm form ≡ reads saved w
   pub read-fits : (length saved ≡ 16) × (length waiting ≤ size)
   read-fits = fits form outcome
 
-  pub read-no-spare : spareRegisters saved ≡ freshSpareRegisters
-  read-no-spare = no-spare form outcome
+  pub read-no-other : others saved ≡ freshOthers
+  read-no-other = no-other form outcome
 
   pub read-length : length form ≡ 13 + length waiting
   read-length = agrees form outcome
@@ -149,7 +148,7 @@ module _ (form saved waiting : List ℕ) (read : readForm form ≡ reads saved w
 -- ---- Two calls
 
 -- Where there is room for the form it lies first.
-encoded : {saved waiting form form′ : List ℕ} {r : ℕ} → length waiting ≤ size → hasNoSpare saved ≡ true → Encodes saved waiting form form′ r
+encoded : {saved waiting form form′ : List ℕ} {r : ℕ} → length waiting ≤ size → hasNoOther saved ≡ true → Encodes saved waiting form form′ r
     → r ≤ length form
     → (r ≡ length (formOf saved waiting)) × (take r form′ ≡ formOf saved waiting)
 encoded {saved} {waiting} {form} {form′} {r} few none w enough =
@@ -162,7 +161,7 @@ encoded {saved} {waiting} {form} {form′} {r} few none w enough =
 -- What one has written into memory with room for it, the other reads back.
 pub there-and-back : {saved waiting form form′ saved₀ waiting₀ saved₁ waiting₁ : List ℕ} {r n : ℕ} → length saved ≡ 16
     → length waiting ≤ size
-    → spareRegisters saved ≡ freshSpareRegisters
+    → others saved ≡ freshOthers
     → Encodes saved waiting form form′ r → r ≤ length form → Decodes (readForm (take r form′)) saved₀ waiting₀ saved₁ waiting₁ n
     → (n ≡ length waiting) × ((saved₁ ≡ saved) × (waiting₁ ≡ written waiting waiting₀))
 there-and-back {saved} {waiting} {saved₀ = saved₀} {waiting₀ = waiting₀} {saved₁ = saved₁} {waiting₁ = waiting₁} {n = n} long few z w enough d =
@@ -181,6 +180,6 @@ back-and-there {form} {saved₀} {waiting₀} {saved} {waiting} {memory} {memory
     go (reads registers waits) e d =
         let same : take n waiting ≡ waits = rw (d .answer, d .bytes) (take-append-seam waits (drop (length waits) waiting₀)) in
         let form-of : formOf saved (take n waiting) ≡ form = rw (d .registers, same) (written-read form registers waits e b) in
-        let none : hasNoSpare saved ≡ true = ap hasNoSpare (d .registers) ∙ ap areZero (read-no-spare form registers waits e) in
+        let none : hasNoOther saved ≡ true = ap hasNoOther (d .registers) ∙ ap areZero (read-no-other form registers waits e) in
         let there = encoded (rw (same, ← d .answer) few) none w enough in
         (there .0 ∙ ap length form-of, there .1 ∙ form-of)

@@ -1,17 +1,27 @@
 -- A saved serial port as bytes: the version at 0, nine registers at 2, how many bytes wait at 11, these bytes at 13. The two numbers have
--- two bytes each, lowest first. The spare registers, all 0, are left out.
+-- two bytes each, lowest first. The other registers, all 0, are left out: the spare ones and the one that tells the size, which is 64.
 use Prim.Native.Nat.{ℕ, _+_}
 use mathlib.Core.Bool.{cond}
-use mathlib.Core.List.{List, _++_}
+use mathlib.Core.List.{List, [], _∷_, _++_}
 use lib.ListN.{length, take, drop}
 use lib.Dec.{ltb, eqb}
 use Rattle.common.specs.Bytes.{bytesOf, valueOf}
-use Rattle.serial.specs.Layout.{size, freshSpareRegisters}
 use Rattle.common.specs.Forms.{Reason, tooShort, trailing, version, tooMany}
 
 -- The version that is written and read.
 abbrev pub current : ℕ
 current = 2
+
+-- It is the form of a port in which 64 bytes may wait.
+abbrev pub size : ℕ
+size = 64
+
+-- The registers that it does not have.
+abbrev pub others : List ℕ → List ℕ
+others saved = drop 9 saved
+
+abbrev pub freshOthers : List ℕ
+freshOthers = 0 ∷ 0 ∷ 0 ∷ 0 ∷ 0 ∷ 0 ∷ 0 ∷ []
 
 -- ---- Writing
 
@@ -32,7 +42,7 @@ abbrev pub registersIn : List ℕ → List ℕ
 registersIn form = take 9 (drop 2 form)
 
 abbrev pub savedIn : List ℕ → List ℕ
-savedIn form = registersIn form ++ freshSpareRegisters
+savedIn form = registersIn form ++ freshOthers
 
 abbrev pub countIn : List ℕ → ℕ
 countIn form = valueOf (take 2 (drop 11 form))

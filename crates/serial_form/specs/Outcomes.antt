@@ -4,8 +4,7 @@ use mathlib.Core.Path.{_≡_}
 use mathlib.Core.List.{List}
 use lib.ListN.{length, drop}
 use Rattle.common.specs.Forms.{tooShort, trailing, version, tooMany}
-use Rattle.serial_form.specs.Form.{Read, refused, reads, current, versionIn, savedIn, countIn}
-use Rattle.serial.specs.Layout.{size}
+use Rattle.serial_form.specs.Form.{Read, refused, reads, current, size, versionIn, savedIn, countIn}
 
 pub data Comes (form : List ℕ) : Read → Type 0 where
   noVersion : length form < 2 → Comes form (refused tooShort)

@@ -7,19 +7,21 @@ use serial::memory::are_spares_zero;
 use serial::memory::regs_len;
 use serial::memory::ring_len;
 ghost use mathlib.Core.Path.{_≡_};
+ghost use mathlib.Core.Logic.{_↔_};
+ghost use mathlib.Core.Bool.{true};
 ghost use mathlib.Core.List.{[], _∷_};
 ghost use Prim.Native.Nat.{_+_, _≤_};
 ghost use lib.ListN.{length};
 ghost use lib.Seq.{sets};
 ghost use Rattle.common.specs.Bytes.{bytesOf, valueOf};
-ghost use Rattle.serial_form.specs.Form.{formOf, readForm, readVersion2, readBehind};
+ghost use Rattle.serial_form.specs.Form.{others, freshOthers, formOf, readForm, readVersion2, readBehind};
 ghost use Rattle.serial_form.specs.Calls.{Encodes, Decodes};
 
 // The version that is written and read.
 const CURRENT: usize = 2;
 
-// How many bytes may wait.
-const SIZE: usize = memory::SIZE as usize;
+// The form is of ports in which so many bytes may wait.
+const SIZE: usize = 64;
 
 // ---- Where the parts of a form begin
 
@@ -88,8 +90,19 @@ fn write(saved: &Regs, waiting: &[u8], form: &mut [u8])
     put(form, WAITING, waiting);
 }
 
+// The registers that the form does not have are 0: the one that tells the size, and the spare ones.
+fn are_others_zero(saved: &Regs) -> bool
+    ensures { λ r. ⌜ (r ≡ true) ↔ (others (now (saved .entry)) ≡ freshOthers) ⌝ }
+{
+    regs_len(saved);
+    if saved[memory::SIZE] != 0 {
+        return false;
+    }
+    are_spares_zero(saved)
+}
+
 // Answers how many bytes the form has, and writes it if there is room for them. More bytes than may wait are refused,
-// and a spare register other than 0.
+// and a register other than 0 that the form does not have.
 pub fn encode(saved: &Regs, waiting: &[u8], form: &mut [u8]) -> u32
     ensures { λ r. ⌜ Encodes (now (saved .entry)) (now (waiting .entry)) (now (form .entry)) (now (form .exit)) r ⌝ }
 {
@@ -98,7 +111,7 @@ pub fn encode(saved: &Regs, waiting: &[u8], form: &mut [u8]) -> u32
     if SIZE < n {
         return TOO_MANY;
     }
-    if !are_spares_zero(saved) {
+    if !are_others_zero(saved) {
         return SPARE;
     }
     let len = WAITING + n;
@@ -131,8 +144,8 @@ fn decode_behind(n: usize, form: &[u8], saved: &mut Regs, waiting: &mut Ring) ->
     regs_len(saved);
     ring_len(waiting);
     put(saved, 0, &form[REGISTERS..COUNT]);
-    let spares = [0u8; 7];
-    put(saved, NINE, &spares);
+    let others = [0u8; 7];
+    put(saved, NINE, &others);
     put(waiting, 0, &form[WAITING..]);
     n as u32
 }

@@ -11,7 +11,7 @@ use lib.ListN.{length, getD, take, drop}
 use lib.Seq.{take-suc}
 use Rattle.serial.specs.Port.{Port, roomOf, line}
 use Rattle.ring.specs.Ring.{queue}
-use Rattle.serial.specs.Layout.{size, places, portOf, spareRegisters, freshSpareRegisters}
+use Rattle.serial.specs.Layout.{places, portOf, spareRegisters, freshSpareRegisters}
 use Rattle.ring.proofs.Laws.{queue-split}
 use Rattle.serial.proofs.Bounds.{memory-fits}
 use Rattle.serial_saved.specs.Saved.{savedOf}
@@ -117,17 +117,17 @@ module _ {digits bytes : List ℕ} {b : Bytes} (g : Gives digits bytes b) where
 -- ---- The port that was saved last
 
 module _ (held : Held) {n : ℕ} {out out′ : List ℕ} {at r : ℕ} (e : n ≡ held .count) where
-  pub none-kept : size < n → Puts out at (text "?\n") out′ r → r ≤ at + 4096
+  pub none-kept : places < n → Puts out at (text "?\n") out′ r → r ≤ at + 4096
       → Answers (asksKept held) held out at held out′ r
-  none-kept l p h = rw (lt-leb (held .count) size (rw (← e) l)) (unknown held p h)
+  none-kept l p h = rw (lt-leb (held .count) places (rw (← e) l)) (unknown held p h)
 
-  pub some-kept : {regs′ pos′ ring′ : List ℕ} → n ≤ size
+  pub some-kept : {regs′ pos′ ring′ : List ℕ} → n ≤ places
       → Brought (savedOf (held .saved) (take (n - 0) (drop 0 (held .waiting)))) (spareRegisters (held .saved)) (held .regs) (held .pos)
       (held .ring) regs′ pos′ ring′ out at out′ r → r ≤ at + 4096
       → Answers (asksKept held) held out at (holding held regs′ pos′ ring′) out′ r
   some-kept l b h =
       let z : n - 0 ≡ held .count = omega arith in
-      rw (le-leb (held .count) size (rw (← e) l)) (brought held (rw z at b) h)
+      rw (le-leb (held .count) places (rw (← e) l)) (brought held (rw z at b) h)
 
 -- ---- The port is saved
 
@@ -157,9 +157,9 @@ module _ (held : Held) {out out′ : List ℕ} {at r : ℕ} where
       (record { regs = held .regs; pos = held .pos; ring = held .ring; saved = saved′; waiting = waiting′; count = count′ }) out′ r
   unfolding savedOf
   saves {saved′} {waiting′} {count′ = count′} s l p q h =
-      let few : count′ ≤ size = rw (s .number) (memory-fits (held .regs) (held .pos) (held .ring)) in
-      let same : min count′ size ≡ count′ = omega arith in
-      let bytes : queue places waiting′ 0 (min count′ size) ≡ take count′ waiting′ = rw same
+      let few : count′ ≤ places = rw (s .number) (memory-fits (held .regs) (held .pos) (held .ring)) in
+      let same : min count′ places ≡ count′ = omega arith in
+      let bytes : queue places waiting′ 0 (min count′ places) ≡ take count′ waiting′ = rw same
       (from-first waiting′ count′ (omega arith) (omega (arith, l))) in
       let port : portOf saved′ (0 ∷ count′ ∷ []) waiting′ ≡ portIn held = same-port saved′ (0 ∷ count′ ∷ []) waiting′
       (take count′ waiting′) bytes ∙ s .holds in
@@ -173,7 +173,7 @@ word-by-line line held e f w = rw (← e, f) w
 
 -- A line that restores makes no access, whether one was kept or not.
 pub none-by-kept : (held : Held) → 0 ≡ wordThen (asksKept held) (portIn held)
-none-by-kept held = go (leb (held .count) size)
+none-by-kept held = go (leb (held .count) places)
   where
     go : (t : Bool) → 0 ≡ wordThen (cond t (restore (keptIn held) (spareRegisters (held .saved))) nothing) (portIn held)
     go true = refl

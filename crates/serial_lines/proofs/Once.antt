@@ -8,7 +8,7 @@ use borrow.Author.Tests.{le-leb, lt-leb}
 use Rattle.common.proofs.Booleans.{told-once}
 use Rattle.counters.specs.Counters.{Serial, freshSerial, serialAfter, answered}
 use Rattle.serial.specs.Calls.{MakesFresh}
-use Rattle.serial.specs.Layout.{size, spareRegisters}
+use Rattle.serial.specs.Layout.{places, spareRegisters}
 use Rattle.serial.specs.Port.{Port}
 use Rattle.serial_saved.specs.Saved.{restoreOf}
 use Rattle.serial_words.specs.Lines.{lineOf}
@@ -86,7 +86,7 @@ kept-stays : (held held₁ : Held) → Keeps false held held₁ → asksKept hel
 kept-stays held held₁ k = rw (k .0, k .1, k .2) refl
 
 kept-now : (held held₁ : Held) → Keeps true held held₁ → asksKept held₁ ≡ restore (portIn held) (spareRegisters (held .regs))
-kept-now held held₁ k = rw (le-leb (held₁ .count) size (k .0), k .1, k .2) refl
+kept-now held held₁ k = rw (le-leb (held₁ .count) places (k .0), k .1, k .2) refl
 
 -- A port that is named leaves what is kept.
 pub named-kept : {held held′ : Held} (held₁ held₁′ : Held) → SameKept held held′ → Keeps false held held₁ → Keeps false held′ held₁′
@@ -94,16 +94,16 @@ pub named-kept : {held held′ : Held} (held₁ held₁′ : Held) → SameKept 
 named-kept {held} {held′} held₁ held₁′ s k l = record { kept = kept-stays held held₁ k ∙ s .kept ∙ sym (kept-stays held′ held₁′ l) }
 
 -- Nothing is kept.
-none : (held : Held) → size < held .count → asksKept held ≡ nothing
-none held l = rw (lt-leb (held .count) size l) refl
+none : (held : Held) → places < held .count → asksKept held ≡ nothing
+none held l = rw (lt-leb (held .count) places l) refl
 
-pub none-kept : {held held′ : Held} → size < held .count → size < held′ .count → SameKept held held′
+pub none-kept : {held held′ : Held} → places < held .count → places < held′ .count → SameKept held held′
 none-kept {held} {held′} l m = record { kept = none held l ∙ sym (none held′ m) }
 
-pub fresh-once : {ports ports′ : Ports} → MakesFresh (ports .held .regs) (ports .held .pos)
-    → MakesFresh (ports′ .held .regs) (ports′ .held .pos) → countersIn ports ≡ freshSerial → countersIn ports′ ≡ freshSerial
+pub fresh-once : {size : ℕ} {ports ports′ : Ports} → MakesFresh size (ports .held .regs) (ports .held .pos)
+    → MakesFresh size (ports′ .held .regs) (ports′ .held .pos) → countersIn ports ≡ freshSerial → countersIn ports′ ≡ freshSerial
     → SamePort ports ports′
-fresh-once {ports} {ports′} f g c d = record {
+fresh-once {ports = ports} {ports′ = ports′} f g c d = record {
   port = f .holds (ports .held .ring) ∙ sym (g .holds (ports′ .held .ring));
   spare = f .sparesZero ∙ sym (g .sparesZero);
   counted = c ∙ sym d;

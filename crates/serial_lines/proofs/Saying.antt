@@ -3,18 +3,18 @@ use Prim.Native.Nat.{ℕ, _+_, _*_, _/_, _%_, _<_}
 use mathlib.Core.Path.{_≡_, refl, sym, ap, _∙_}
 use mathlib.Core.Logic.{_↔_}
 use mathlib.Core.Bool.{Bool, true, false, cond}
-use mathlib.Core.List.{List, _∷_, _++_}
+use mathlib.Core.List.{List, [], _∷_, _++_}
 use native.Mathlib.Decide.{decLt, ℕ-discrete}
 use native.Mathlib.Omega.{arith}
 use borrow.Author.Tests.{eq-eqb, ne-eqb}
 use lib.Dec.{eqb}
 use lib.ListN.{length}
-use Rattle.serial.specs.Port.{Out}
-use Rattle.serial.specs.Layout.{size, portOf, spareRegisters, freshSpareRegisters}
+use Rattle.serial.specs.Port.{Out, isSize}
+use Rattle.serial.specs.Layout.{sizeOf, portOf, spareRegisters, freshSpareRegisters}
 use Rattle.serial.proofs.Bounds.{read-word}
 use Rattle.serial_saved.specs.Saved.{Restore, savedOf, restoreOf}
 use Rattle.common.specs.Answer.{oneRaise}
-use Rattle.serial.specs.Calls.{readWord}
+use Rattle.serial.specs.Calls.{readWord, MakesFresh, Makes}
 use Rattle.serial_saved.specs.Calls.{Restores}
 use Rattle.serial_saved.proofs.Bringing.{too-many, enough}
 use Rattle.serial_saved.proofs.Saving.{restore-word}
@@ -34,12 +34,17 @@ read-plainly o h =
     let low : readWord o % 256 ≡ o .reply = omega (arith, parts .number) in
     rw (low, parts .raises) refl
 
+-- A port is made where there is one with this size.
+pub made : (size : ℕ) (regs pos : List ℕ) {regs′ pos′ : List ℕ} (word : ℕ) → isSize size ≡ true → Makes size regs pos regs′ pos′ word
+    → MakesFresh size regs′ pos′
+made size regs pos word e m = (rw e at m) .1
+
 -- ---- A port is restored
 
 pub nine : (line : List ℕ) {a b c d e f g h i : ℕ} → a ≡ byteAt line 8 → b ≡ byteAt line 14 → c ≡ byteAt line 17 → d ≡ byteAt line 20
     → e ≡ byteAt line 26
     → f ≡ byteAt line 23 → g ≡ byteAt line 29 → h ≡ byteAt line 32 → i ≡ byteAt line 11 → (waiting : List ℕ)
-    → savedOf (a ∷ b ∷ c ∷ d ∷ e ∷ f ∷ g ∷ h ∷ i ∷ freshSpareRegisters) waiting ≡ givenIn line waiting
+    → savedOf (a ∷ b ∷ c ∷ d ∷ e ∷ f ∷ g ∷ h ∷ i ∷ (freshSpareRegisters ++ (0 ∷ []))) waiting ≡ givenIn line waiting
 unfolding savedOf portOf
 nine line p q r s t u v w x waiting = rw (p, q, r, s, t, u, v, w, x) refl
 
@@ -59,13 +64,13 @@ module _ {regs pos ring saved waiting regs′ pos′ ring′ : List ℕ} {word :
 
   not-refused : (word ≡ 0x1_0000 → ⊥) → o .refused ≡ false
   unfolding savedOf
-  not-refused h = go (decLt size (length waiting))
+  not-refused h = go (decLt (sizeOf saved) (length waiting))
     where
-      word-of : size < length waiting → (t : Bool) → b .reachable ≡ t → word ≡ 0x1_0000
+      word-of : sizeOf saved < length waiting → (t : Bool) → b .reachable ≡ t → word ≡ 0x1_0000
       word-of l true e = absurd (omega (arith, b .exact .0 e .port .fits))
       word-of l false e = b .answer ∙ rw (e, too-many saved waiting (portOf regs pos ring) l) refl
 
-      go : Dec (size < length waiting) → o .refused ≡ false
+      go : Dec (sizeOf saved < length waiting) → o .refused ≡ false
       go (yes l) = absurd (h (word-of l (b .reachable) refl))
       go (no l) = ap (λ (o : Restore). o .refused) (enough saved waiting (portOf regs pos ring) (omega arith))
 
@@ -76,7 +81,11 @@ module _ {regs pos ring saved waiting regs′ pos′ ring′ : List ℕ} {word :
   raises = rw (b .answer) (restore-word (b .reachable) o .1 .1)
 
   tells : (b .reachable ≡ true) ↔ Reached (savedOf saved waiting) (spareRegisters saved)
-  tells = (λ e. let k = b .exact .0 e in (k .port, k .sparesZero), λ k. b .exact .1 (record { port = k .0; sparesZero = k .1 }))
+  unfolding savedOf portOf
+  tells = (
+    λ e. let k = b .exact .0 e in (k .made, k .port, k .sparesZero),
+    λ k. b .exact .1 (record { made = k .0; port = k .1; sparesZero = k .2 }),
+  )
 
   said : broughtPart word ≡ restoreSays o (b .reachable)
   said = go (ℕ-discrete word 0x1_0000)

@@ -6,8 +6,8 @@ use mathlib.Core.List.{List, [], _++_}
 use mathlib.Core.Logic.{_↔_}
 use lib.Dec.{leb}
 use lib.ListN.{take, drop}
-use Rattle.serial.specs.Port.{Port, readOf, writeOf, inputOf, roomOf, line}
-use Rattle.serial.specs.Layout.{size, portOf, spareRegisters, freshSpareRegisters}
+use Rattle.serial.specs.Port.{Port, isSize, readOf, writeOf, inputOf, roomOf, line}
+use Rattle.serial.specs.Layout.{places, portOf, spareRegisters, freshSpareRegisters}
 use Rattle.serial.specs.Calls.{readWord, writeWord}
 use Rattle.runs.specs.Reachable.{Reachable}
 use Rattle.serial_saved.specs.Saved.{Restore, savedOf, restoreOf}
@@ -31,7 +31,7 @@ heldOf regs pos ring saved waiting count = record { regs = regs; pos = pos; ring
 abbrev pub portIn : Held → Port
 portIn held = portOf (held .regs) (held .pos) (held .ring)
 
--- A number above the size says that none was saved.
+-- A number above the places of the ring says that none was saved.
 abbrev pub keptIn : Held → Port
 keptIn held = savedOf (held .saved) (take (held .count) (held .waiting))
 
@@ -49,7 +49,7 @@ pub data Asks : Type 0 where
 abbrev pub asksWith : List ℕ → (List ℕ → Asks) → Asks
 asksWith digits ask = cond (areBytes digits) (ask (bytesOf digits)) nothing
 
--- The port of `restore DL DH IER IIR LCR LSR MCR MSR SCR HH..`.
+-- The port of `restore DL DH IER IIR LCR LSR MCR MSR SCR HH..`. No size stands there: it is 64, as of a port that `serial` names.
 abbrev pub givenIn : List ℕ → List ℕ → Port
 givenIn line bytes = record {
   settings = record {
@@ -64,12 +64,12 @@ givenIn line bytes = record {
   lsr = byteAt line 23;
   msr = byteAt line 29;
   waiting = bytes;
-  size = size;
+  size = 64;
 }
 
 -- `restore` alone asks for the port that was saved last.
 abbrev pub asksKept : Held → Asks
-asksKept held = cond (leb (held .count) size) (restore (keptIn held) (spareRegisters (held .saved))) nothing
+asksKept held = cond (leb (held .count) places) (restore (keptIn held) (spareRegisters (held .saved))) nothing
 
 abbrev pub asksPort : Access → List ℕ → Asks
 asksPort (Write offset value) line = write offset value
@@ -109,9 +109,9 @@ says save p reached = text "save" ++ portSays p
 says (restore saved spares) p reached = restoreSays (restoreOf p saved) reached
 says nothing p reached = text "?\n"
 
--- What `reached` is where a port is restored: whether a run from a fresh one could have come to it.
+-- What `reached` is where a port is restored: whether a run from a fresh one of its size could have come to it.
 abbrev pub Reached : Port → List ℕ → Type 0
-Reached saved spares = Reachable size saved × (spares ≡ freshSpareRegisters)
+Reached saved spares = (isSize (saved .size) ≡ true) × Reachable (saved .size) saved × (spares ≡ freshSpareRegisters)
 
 abbrev pub Tells : Asks → Bool → Type 0
 Tells (restore saved spares) reached = (reached ≡ true) ↔ Reached saved spares
@@ -163,7 +163,7 @@ isSave nothing = false
 -- After `save` the port is kept with its spare registers, and after every other line what was kept before.
 abbrev pub Keeps : Bool → Held → Held → Type 0
 Keeps true held held′ =
-    (held′ .count ≤ size) × (keptIn held′ ≡ portIn held) × (spareRegisters (held′ .saved) ≡ spareRegisters (held .regs))
+    (held′ .count ≤ places) × (keptIn held′ ≡ portIn held) × (spareRegisters (held′ .saved) ≡ spareRegisters (held .regs))
 Keeps false held held′ = (held′ .saved ≡ held .saved) × (held′ .waiting ≡ held .waiting) × (held′ .count ≡ held .count)
 
 -- A port was restored.

@@ -53,7 +53,7 @@ pub fn answer(
             word: 0,
         },
         Access::Room => Done {
-            put: room(pos, out, at),
+            put: room(regs, pos, out, at),
             word: 0,
         },
         Access::State => Done {

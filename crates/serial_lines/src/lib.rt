@@ -4,10 +4,10 @@ mod counted;
 mod saved;
 
 use counters::SerialCounters;
+use serial::memory::PLACES;
 use serial::memory::Pos;
 use serial::memory::Regs;
 use serial::memory::Ring;
-use serial::memory::SIZE;
 use serial_access::Done;
 use serial_words::line;
 use serial_words::line::Line;
@@ -15,15 +15,16 @@ use words::Block;
 use words::pattern::fits;
 ghost use Prim.Native.Nat.{_+_, _≤_, _<_};
 ghost use mathlib.Core.Path.{_≡_};
-ghost use mathlib.Core.Bool.{false};
+ghost use mathlib.Core.Bool.{true, false};
 ghost use Rattle.serial.specs.Calls.{MakesFresh};
-ghost use Rattle.serial.specs.Layout.{size};
+ghost use Rattle.serial.specs.Layout.{places};
+ghost use Rattle.serial.specs.Port.{isSize};
 ghost use Rattle.counters.specs.Counters.{freshSerial};
 ghost use Rattle.serial_lines.specs.Answers.{AnswersHeld, Keeps, asks, heldOf, portIn, wordThen};
 ghost use Rattle.serial_lines.specs.Counted.{AnswersPorts, countersIn};
 
 // The serial port, in `regs`, `pos` and `ring`, and the one that was saved last: its registers, its
-// waiting bytes, and how many there are, or more than `SIZE` where none was saved yet.
+// waiting bytes, and how many there are, or more than `PLACES` where none was saved yet.
 pub struct Held {
     pub regs: Regs,
     pub pos: Pos,
@@ -47,7 +48,7 @@ pub struct Said {
 
 // No port was begun and none saved.
 pub fn start() -> Ports
-    ensures { λ r. ⌜ size < r .held .count ⌝ }
+    ensures { λ r. ⌜ places < r .held .count ⌝ }
 {
     Ports {
         held: Held {
@@ -56,15 +57,16 @@ pub fn start() -> Ports
             ring: [0; 1024],
             saved: [0; 16],
             waiting: [0; 1024],
-            count: SIZE + 1,
+            count: PLACES + 1,
         },
         counters: [0; 4],
     }
 }
 
-// Makes the serial port a fresh one with nothing counted, and leaves what was saved.
-pub fn begin(ports: Ports) -> Ports
-    ensures { λ r. ⌜ MakesFresh (r .held .regs) (r .held .pos) ⌝ }
+// Makes the serial port a fresh one of this size with nothing counted, and leaves what was saved.
+pub fn begin(ports: Ports, size: u32) -> Ports
+    requires { ⌜ isSize size ≡ true ⌝ }
+    ensures { λ r. ⌜ MakesFresh size (r .held .regs) (r .held .pos) ⌝ }
     ensures { λ r. ⌜ Keeps false (ports .held) (r .held) ⌝ }
     ensures { λ r. ⌜ countersIn r ≡ freshSerial ⌝ }
 {
@@ -74,7 +76,7 @@ pub fn begin(ports: Ports) -> Ports
     let ring = held.ring;
     let saved = held.saved;
     let waiting = held.waiting;
-    serial::init(&mut regs, &mut pos);
+    serial::init(&mut regs, &mut pos, size);
     let mut counters = ports.counters;
     counters::serial_init(&mut counters);
     let held = Held {

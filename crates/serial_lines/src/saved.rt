@@ -19,8 +19,7 @@ ghost use Rattle.serial.specs.Layout.{spareRegisters, freshSpareRegisters};
 ghost use Rattle.serial_saved.specs.Saved.{savedOf};
 ghost use Rattle.serial_lines.specs.Answers.{Answers, AnswersPort, Brought, heldOf, asksKept, asksWith, givenIn, restore, save};
 
-// As many bytes may wait.
-const SIZE: usize = memory::SIZE as usize;
+const PLACES: usize = memory::PLACES as usize;
 
 pub fn save(
     regs: &Regs,
@@ -69,7 +68,7 @@ pub fn restore_kept(
         ⌝ }
 {
     let n = wide(count);
-    if n > SIZE {
+    if n > PLACES {
         return unknown(out, at);
     }
     let all: &[u8] = waiting;
@@ -101,7 +100,8 @@ pub fn restore_given(
     restore(regs, pos, ring, &given, &bytes[..count], out, at)
 }
 
-// The registers of such a line, in the order in which they lie in memory; the spare ones are 0.
+// The registers of such a line, in the order in which they lie in memory; the spare ones are 0, and
+// so is the one that tells the size: 64.
 pub fn regs_in(line: &[u8]) -> Regs
     ensures { λ r. ⌜ ((waiting : List ℕ) → savedOf r waiting ≡ givenIn (now (line .entry)) waiting) ⌝ }
     ensures { λ r. ⌜ spareRegisters r ≡ freshSpareRegisters ⌝ }

@@ -12,8 +12,9 @@ use lib.Seq.{take-length}
 use borrow.Author.Tests.{le-leb, lt-leb}
 use Rattle.serial.specs.Port.{Port}
 use Rattle.ring.specs.Ring.{queue}
-use Rattle.serial.specs.Layout.{size, places, startOf, countOf, portOf, sparePositions}
+use Rattle.serial.specs.Layout.{places, sizeOf, startOf, countOf, portOf, sparePositions}
 use Rattle.ring.specs.Ring.{Put, Unrolled}
+use Rattle.serial.proofs.Sizes.{size-few}
 use Rattle.serial.proofs.Answering.{waiting-length}
 use Rattle.serial_saved.specs.Saved.{savedOf, raisedAgain, restoreOf}
 use Rattle.common.specs.Answer.{oneRaise}
@@ -55,17 +56,17 @@ as-number true = (refl, omega arith)
 as-number false = (refl, omega arith)
 
 module _ (saved waiting : List ℕ) where
-  pub too-many : (p : Port) → size < length waiting → restoreOf p (savedOf saved waiting) ≡ record { port = p; refused = true; raises = 0 }
+  pub too-many : (p : Port) → sizeOf saved < length waiting → restoreOf p (savedOf saved waiting) ≡ record { port = p; refused = true; raises = 0 }
   unfolding restoreOf savedOf portOf
-  too-many p h = rw (lt-leb (length waiting) size h)
+  too-many p h = rw (lt-leb (length waiting) (sizeOf saved) h)
 
-  pub enough : (p : Port) → length waiting ≤ size
+  pub enough : (p : Port) → length waiting ≤ sizeOf saved
       → restoreOf p (savedOf saved waiting) ≡ record { port = savedOf saved waiting; refused = false; raises = length (raisedAgain (savedOf saved waiting)) }
   unfolding restoreOf savedOf portOf
-  enough p h = rw (le-leb (length waiting) size h)
+  enough p h = rw (le-leb (length waiting) (sizeOf saved) h)
 
   -- too many bytes: nothing was done
-  pub refuses : (regs pos ring : List ℕ) → size < length waiting → Restores regs pos ring saved waiting regs pos ring 0x1_0000
+  pub refuses : (regs pos ring : List ℕ) → sizeOf saved < length waiting → Restores regs pos ring saved waiting regs pos ring 0x1_0000
   unfolding savedOf
   refuses regs pos ring h =
       rw (too-many (portOf regs pos ring) h)
@@ -80,7 +81,7 @@ module _ (saved waiting : List ℕ) where
         unchangedIfRefused = λ e. (refl, (refl, refl));
       })
 
-  pub restores : (regs pos ring regs′ ring′ : List ℕ) (raises : ℕ) (reachable : Bool) → length waiting ≤ size → length pos ≡ 4
+  pub restores : (regs pos ring regs′ ring′ : List ℕ) (raises : ℕ) (reachable : Bool) → length waiting ≤ sizeOf saved → length pos ≡ 4
       → regs′ ≡ saved
       → Put places ring 0 0 (take (length waiting) waiting) ring′ (0 + length waiting) → (reachable ≡ true) ↔ ReachableSaved saved waiting
       → raises ≡ length (raisedAgain (savedOf saved waiting))
@@ -89,7 +90,7 @@ module _ (saved waiting : List ℕ) where
   unfolding queue
   restores regs pos ring regs′ ring′ raises reachable h l c put k e =
       let z : 0 + length waiting ≡ length waiting = zero-add (length waiting) in
-      let n : countOf (0 ∷ length waiting ∷ sparePositions pos) ≡ length waiting = omega arith in
+      let n : countOf (0 ∷ length waiting ∷ sparePositions pos) ≡ length waiting = omega (arith, size-few saved) in
       rw (enough (portOf regs pos ring) h, positions pos (length waiting) l, c)
       (record {
         reachable = reachable;

@@ -11,10 +11,9 @@ use Prim.Native.Nat.{ℕ, _+_, _/_, _%_, _≤_, _<_}
 use native.Mathlib.Omega.{arith}
 use lib.ListN.{length, take}
 use Rattle.interrupts.specs.Interrupts.{Kind, receivedData, transmitterEmpty}
-use Rattle.serial.specs.Port.{Port, active}
-use Rattle.serial.specs.Layout.{size, portOf, spareRegisters, freshSpareRegisters}
+use Rattle.serial.specs.Port.{Port, isSize, active}
+use Rattle.serial.specs.Layout.{sizeOf, portOf, spareRegisters, freshSpareRegisters}
 use Rattle.runs.specs.Reachable.{Reachable}
-use Rattle.serial.proofs.Bounds.{memory-fits}
 use Rattle.serial_saved.specs.Saved.{savedOf, ifActive, raisedAgain, Restore, restoreOf}
 use Rattle.common.specs.Answer.{oneRaise}
 use Rattle.common.proofs.Words.{parts}
@@ -48,17 +47,17 @@ module _ {regs pos ring saved waiting regs′ pos′ ring′ : List ℕ} {r : �
       (λ e. b .exact .0 (t .0 (sym (told-parts .0) ∙ e)), λ k. told-parts .0 ∙ t .1 (b .exact .1 k))
 
   -- .. and "refused" exactly where more bytes wait than there is room for. Then nothing is raised, and else each active kind.
-  pub not-refused : length waiting ≤ size → (r / 0x1_0000 % 2 ≡ 0) × (r / oneRaise ≡ length (raisedAgain (savedOf saved waiting)))
+  pub not-refused : length waiting ≤ sizeOf saved → (r / 0x1_0000 % 2 ≡ 0) × (r / oneRaise ≡ length (raisedAgain (savedOf saved waiting)))
   not-refused h = rw (enough saved waiting (portOf regs pos ring) h) at (told-parts .1)
 
-  pub refused : size < length waiting → (r / 0x1_0000 % 2 ≡ 1) × (r / oneRaise ≡ 0)
+  pub refused : sizeOf saved < length waiting → (r / 0x1_0000 % 2 ≡ 1) × (r / oneRaise ≡ 0)
   refused h = rw (too-many saved waiting (portOf regs pos ring) h) at (told-parts .1)
 
   -- Where it is not refused the memory holds what was saved.
-  pub brought-back : length waiting ≤ size → portOf regs′ pos′ ring′ ≡ savedOf saved waiting
+  pub brought-back : length waiting ≤ sizeOf saved → portOf regs′ pos′ ring′ ≡ savedOf saved waiting
   brought-back h = rw (enough saved waiting (portOf regs pos ring) h) at (b .holds)
 
-  same-registers : length waiting ≤ size → regs′ ≡ saved
+  same-registers : length waiting ≤ sizeOf saved → regs′ ≡ saved
   same-registers h = b .restored (ap (λ (o : Restore). o .refused) (enough saved waiting (portOf regs pos ring) h)) .0
 
 -- ---- Save after restore: what was saved comes out again, register for register and byte for byte
@@ -67,18 +66,21 @@ saved-waiting : (saved waiting : List ℕ) → savedOf saved waiting .waiting �
 unfolding savedOf
 saved-waiting saved waiting = refl
 
-pub save-after-restore : {regs pos ring saved waiting regs′ pos′ ring′ w saved′ w′ : List ℕ} {r n : ℕ} → length waiting ≤ size
+pub save-after-restore : {regs pos ring saved waiting regs′ pos′ ring′ w saved′ w′ : List ℕ} {r n : ℕ} → length waiting ≤ sizeOf saved
     → Restores regs pos ring saved waiting regs′ pos′ ring′ r → Saves regs′ pos′ ring′ w saved′ w′ n
     → (saved′ ≡ saved) × ((n ≡ length waiting) × (take n w′ ≡ waiting))
 save-after-restore {saved = saved} {waiting = waiting} h b s =
     let same : portOf _ _ _ .waiting ≡ waiting = ap (λ (p : Port). p .waiting) (brought-back b h) ∙ saved-waiting saved waiting in
     (s .registers ∙ same-registers b h, (s .number ∙ ap length same, s .bytes ∙ same))
 
--- ---- Restore after save: into whatever memory, it is never refused, and the port is the one that was saved
+-- ---- Restore after save: where the port holds no more than its size it is not refused, into whatever memory, and the port is the one that
+-- was saved, of the same size
 
-module _ {regs pos ring w saved w′ : List ℕ} {n : ℕ} (s : Saves regs pos ring w saved w′ n) where
-  fits : length (take n w′) ≤ size
-  fits = rw (s .bytes) (memory-fits regs pos ring)
+module _ {regs pos ring w saved w′ : List ℕ} {n : ℕ} (s : Saves regs pos ring w saved w′ n)
+    (few : length (portOf regs pos ring .waiting) ≤ portOf regs pos ring .size) where
+  fits : length (take n w′) ≤ sizeOf saved
+  unfolding portOf
+  fits = rw (s .bytes, s .registers) few
 
   module _ {regs₁ pos₁ ring₁ regs′ pos′ ring′ : List ℕ} {r : ℕ} (b : Restores regs₁ pos₁ ring₁ saved (take n w′) regs′ pos′ ring′ r) where
     same-port : portOf regs′ pos′ ring′ ≡ portOf regs pos ring
@@ -88,10 +90,14 @@ module _ {regs pos ring w saved w′ : List ℕ} {n : ℕ} (s : Saves regs pos r
     restore-after-save = (not-refused b fits .0, same-port)
 
     -- A port that runs reach is one still, and the word says so.
-    pub saved-reachable : Reachable size (portOf regs pos ring) → spareRegisters regs ≡ freshSpareRegisters
-        → (r / 0x4_0000 % 2 ≡ 1) × Reachable size (portOf regs′ pos′ ring′)
-    saved-reachable k z =
-        (reachable-exactly b .1 (record { port = rw (s .holds) k; sparesZero = ap spareRegisters (s .registers) ∙ z }), rw same-port k)
+    pub saved-reachable : isSize (sizeOf regs) ≡ true → Reachable (sizeOf regs) (portOf regs pos ring)
+        → spareRegisters regs ≡ freshSpareRegisters
+        → (r / 0x4_0000 % 2 ≡ 1) × Reachable (sizeOf regs) (portOf regs′ pos′ ring′)
+    saved-reachable m k z =
+        let same = s .registers in (
+          reachable-exactly b .1 (record { made = rw same m; port = rw (s .holds, same) k; sparesZero = ap spareRegisters same ∙ z }),
+          rw same-port k,
+        )
 
 -- ---- What is raised again
 

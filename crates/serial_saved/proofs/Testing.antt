@@ -1,7 +1,7 @@
 -- What each answer of the test for reachable ports is in the definition, clause by clause.
 use mathlib.Core.Path.{_≡_, refl, sym, ap, _∙_}
 use mathlib.Core.Logic.{_↔_}
-use mathlib.Core.Bool.{Bool, true, false, cond, not, false≢true}
+use mathlib.Core.Bool.{Bool, true, false, cond, not, false≢true, true≢false}
 use mathlib.Core.List.{List, [], _∷_}
 use Prim.Native.Nat.{ℕ, zero, suc, _≤_, _<_}
 use native.Mathlib.Omega.{arith}
@@ -10,7 +10,8 @@ use lib.ListN.{length, getD}
 use borrow.Author.Tests.{ne-eqb}
 use Rattle.common.specs.Bytes.{Bytes}
 use Rattle.common.specs.Lists.{some}
-use Rattle.serial.specs.Layout.{size, portOf, spareRegisters, freshSpareRegisters}
+use Rattle.serial.specs.Layout.{sizeOf, portOf, spareRegisters, freshSpareRegisters}
+use Rattle.serial.specs.Port.{isSize}
 use Rattle.interrupts.specs.Interrupts.{settled}
 use Rattle.serial_saved.specs.Saved.{savedOf}
 use Rattle.serial_saved.specs.Calls.{ReachableSaved}
@@ -76,14 +77,22 @@ module _ (saved waiting : List ℕ) where
   unfolding savedOf portOf
   other-iir iir e d = not-so (λ k. d (k .port .iir ∙ ap (settled (getD saved 1 0) (getD saved 2 0)) (some-is waiting) ∙ sym e))
 
+  -- t: whether a port is made with a size of n
+  pub other-size : {n : ℕ} {t : Bool} → n ≡ sizeOf saved → t ≡ isSize n → t ≡ false → No
+  other-size e f d = not-so (λ k. true≢false (sym (k .made) ∙ ap isSize (sym e) ∙ sym f ∙ d))
+
+  pub made-size : {n : ℕ} {t : Bool} → n ≡ sizeOf saved → t ≡ isSize n → t ≡ true → isSize (sizeOf saved) ≡ true
+  made-size e f d = ap isSize (sym e) ∙ sym f ∙ d
+
   -- all but the last hold: that decides
-  pub decided : {z : Bool} {status iir : ℕ} → Bytes saved → Bytes waiting → length waiting ≤ size → getD saved 1 0 < 16
+  pub decided : {z : Bool} {status iir : ℕ} → Bytes saved → Bytes waiting → length waiting ≤ sizeOf saved → getD saved 1 0 < 16
       → getD saved 6 0 ≡ 0xb0
-      → status ≡ cond (some waiting) 0x61 0x60 → getD saved 5 0 ≡ status → iir ≡ right → getD saved 2 0 ≡ iir
+      → status ≡ cond (some waiting) 0x61 0x60 → getD saved 5 0 ≡ status → iir ≡ right → getD saved 2 0 ≡ iir → isSize (sizeOf saved) ≡ true
       → (z ≡ true) ↔ (spareRegisters saved ≡ freshSpareRegisters) → (z ≡ true) ↔ ReachableSaved saved waiting
   unfolding savedOf portOf
-  decided b w f ier msr status lsr e iir s = (
+  decided b w f ier msr status lsr e iir made s = (
     λ z. record {
+      made = made;
       sparesZero = s .0 z;
       port = record {
         settings = record {

@@ -5,7 +5,8 @@ use mathlib.Core.Logic.{_↔_}
 use mathlib.Core.List.{List, _∷_}
 use mathlib.Core.Bool.{Bool, true, false, cond}
 use lib.ListN.{length, take, drop}
-use Rattle.serial.specs.Layout.{size, portOf, unusedOf, spareRegisters, sparePositions, freshSpareRegisters}
+use Rattle.serial.specs.Port.{isSize}
+use Rattle.serial.specs.Layout.{sizeOf, portOf, unusedOf, spareRegisters, sparePositions, freshSpareRegisters}
 use Rattle.common.specs.Answer.{refusedBit, reachableBit, oneRaise}
 use Rattle.runs.specs.Reachable.{Reachable}
 use Rattle.serial_saved.specs.Saved.{savedOf, Restore, restoreOf}
@@ -23,9 +24,11 @@ pub record Saves (regs pos ring waiting saved′ waiting′ : List ℕ) (r : ℕ
 abbrev pub restoreWord : Bool → Restore → ℕ
 restoreWord reachable o = cond (o .refused) refusedBit 0 + cond reachable reachableBit 0 + oneRaise * o .raises
 
--- A run from a fresh port can have come to what was saved: it reaches the port, and keeps the spare registers at 0.
+-- A run from a fresh port can have come to what was saved: one is made with its size, a run reaches the port, and keeps the spare
+-- registers at 0.
 pub record ReachableSaved (saved waiting : List ℕ) : Type 0 where
-  pub port : Reachable size (savedOf saved waiting)
+  pub made : isSize (sizeOf saved) ≡ true
+  pub port : Reachable (sizeOf saved) (savedOf saved waiting)
   pub sparesZero : spareRegisters saved ≡ freshSpareRegisters
 
 -- The port is restored: the memory holds it, from the ring's first place on. The bytes of the ring that do not wait are as they were, and

@@ -1,4 +1,4 @@
--- A serial port saved and restored: its registers, and the bytes that wait in their order.
+-- A serial port saved and restored: its registers, its size among them, and the bytes that wait in their order.
 use Prim.Native.Nat.{ℕ}
 use mathlib.Core.Bool.{Bool, true, false, cond}
 use mathlib.Core.List.{List, [], _∷_, _++_}

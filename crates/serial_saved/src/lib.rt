@@ -13,6 +13,7 @@ use serial::memory::Regs;
 use serial::memory::Ring;
 use serial::memory::START;
 use serial::waiting::count;
+use serial::waiting::size;
 ghost use mathlib.Core.Path.{_≡_};
 ghost use mathlib.Core.List.{List};
 ghost use Prim.Native.Nat.{ℕ};
@@ -20,9 +21,6 @@ ghost use lib.ListN.{length};
 ghost use Rattle.common.specs.Lists.{some};
 ghost use Rattle.serial_saved.specs.Saved.{savedOf, raisedAgain};
 ghost use Rattle.serial_saved.specs.Calls.{Saves, Restores};
-
-// How many bytes may wait.
-const SIZE: usize = memory::SIZE as usize;
 
 // All registers, the spare ones too.
 fn copy(from: &Regs, to: &mut Regs)
@@ -52,13 +50,13 @@ fn raises(saved: &Regs, waits: bool) -> u32
 }
 
 // What was saved becomes the port. The answer: whether a run from a fresh port can have come to it,
-// and the raises. More bytes than the port has room for are refused.
+// and the raises. More bytes than its size are refused.
 pub fn restore(regs: &mut Regs, pos: &mut Pos, ring: &mut Ring, saved: &Regs, waiting: &[u8]) -> u32
     ensures { λ r. ⌜ Restores (now (regs .entry)) (now (pos .entry)) (now (ring .entry)) (now (saved .entry)) (now (waiting .entry))
         (now (regs .exit)) (now (pos .exit)) (now (ring .exit)) r ⌝ }
 {
     let len = waiting.len();
-    if SIZE < len {
+    if (size(saved) as usize) < len {
         return REFUSED;
     }
     memory::pos_len(pos);

@@ -5,6 +5,7 @@ use serial::memory::IIR;
 use serial::memory::LSR;
 use serial::memory::MSR;
 use serial::memory::Regs;
+use serial::waiting;
 ghost use mathlib.Core.Path.{_≡_};
 ghost use mathlib.Core.Logic.{_↔_};
 ghost use mathlib.Core.List.{List};
@@ -13,7 +14,7 @@ ghost use Prim.Native.Nat.{ℕ, _≤_};
 ghost use lib.ListN.{length};
 ghost use Rattle.common.specs.Bytes.{Bytes};
 ghost use Rattle.common.specs.Lists.{some};
-ghost use Rattle.serial.specs.Layout.{size};
+ghost use Rattle.serial.specs.Layout.{sizeOf};
 ghost use Rattle.serial_saved.specs.Calls.{ReachableSaved};
 
 fn nothing() {}
@@ -36,15 +37,15 @@ fn status(n: usize) -> u8
 }
 
 // All clauses. LCR, MCR, SCR and the divisor may be any bytes, and so may those that wait.
-pub fn is_reachable(saved: &Regs, waiting: &[u8]) -> bool
-    requires { ⌜ length (now waiting) ≤ size ⌝ }
-    ensures { λ r. ⌜ (r ≡ true) ↔ ReachableSaved (now (saved .entry)) (now (waiting .entry)) ⌝ }
+pub fn is_reachable(saved: &Regs, bytes: &[u8]) -> bool
+    requires { ⌜ length (now bytes) ≤ sizeOf (now saved) ⌝ }
+    ensures { λ r. ⌜ (r ≡ true) ↔ ReachableSaved (now (saved .entry)) (now (bytes .entry)) ⌝ }
 {
     all_bytes(saved);
-    all_bytes(waiting);
+    all_bytes(bytes);
     let ier = saved[IER];
     let iir = saved[IIR];
-    let n = waiting.len();
+    let n = bytes.len();
     if 16 <= ier {
         return false;
     }
@@ -55,6 +56,9 @@ pub fn is_reachable(saved: &Regs, waiting: &[u8]) -> bool
         return false;
     }
     if iir != interrupts::settled(ier, iir, n != 0) {
+        return false;
+    }
+    if !waiting::is_size(waiting::size(saved)) {
         return false;
     }
     memory::are_spares_zero(saved)

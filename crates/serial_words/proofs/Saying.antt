@@ -11,7 +11,7 @@ use Rattle.common.specs.Answer.{sentBit, oneRaise}
 use Rattle.common.specs.Lists.{some}
 use Rattle.ring.specs.Ring.{queue}
 use Rattle.ring.proofs.Laws.{queue-length, queue-round, queue-split}
-use Rattle.serial.specs.Layout.{size, places, portOf}
+use Rattle.serial.specs.Layout.{places, portOf}
 use Rattle.words.specs.Decimal.{decimalOf}
 use Rattle.words.specs.Hex.{digitsOf}
 use Rattle.words.specs.Put.{Puts}
@@ -105,13 +105,13 @@ nine-said regs p q s pos ring =
     let said : ℕ → List ℕ = λ (i : ℕ). nextByte (getD regs i 0) in
     instead (in-threes (said 0) (said 8) (said 1) (said 2) (said 3) (said 5) (said 4) (said 6) (said 7)) (both (both p q) s)
 
--- a port of which these are the positions: a place beyond the ring goes round, and no more bytes wait than its size
-pub port-said : (regs ring : List ℕ) (start count : ℕ) {x n : ℕ} {out o₁ out′ : List ℕ} {at a r : ℕ} → x ≡ start → n ≡ min count size
+-- a port of which these are the positions: a place beyond the ring goes round, and no more bytes wait than the ring has places
+pub port-said : (regs ring : List ℕ) (start count : ℕ) {x n : ℕ} {out o₁ out′ : List ℕ} {at a r : ℕ} → x ≡ start → n ≡ min count places
     → ((pos ring : List ℕ) → Puts out at (registersSay (portOf regs pos ring)) o₁ a)
     → Puts o₁ a (waitingSay (queue places ring (x % places) n)) out′ r
     → Puts out at (portSays (portOf regs (start ∷ count ∷ []) ring)) out′ r
 unfolding portOf
 port-said regs ring start count {x} {n} e f p q =
-    let same : queue places ring (x % places) n ≡ queue places ring start (min count size) =
-    rw (e, f) (sym (queue-round places ring start (start % places) (min count size) (sym (mod-mod start places)))) in
+    let same : queue places ring (x % places) n ≡ queue places ring start (min count places) =
+    rw (e, f) (sym (queue-round places ring start (start % places) (min count places) (sym (mod-mod start places)))) in
     both (p (start ∷ count ∷ []) ring) (instead (ap waitingSay same) q)

@@ -19,12 +19,9 @@ ghost use Prim.Native.Nat.{ℕ, _+_, _≤_, _<_, min};
 ghost use mathlib.Core.Path.{_≡_};
 ghost use mathlib.Core.List.{List, [], _∷_, _++_};
 ghost use Rattle.ring.specs.Ring.{queue};
-ghost use Rattle.serial.specs.Layout.{size, places, portOf};
+ghost use Rattle.serial.specs.Layout.{places, portOf};
 ghost use Rattle.words.specs.Put.{Puts};
 ghost use Rattle.serial_words.specs.Said.{nextByte, bytesSay, registersSay, waitingSay, portSays};
-
-// As many bytes may wait.
-const SIZE: u32 = memory::SIZE;
 
 const PLACES: usize = memory::PLACES as usize;
 
@@ -37,13 +34,13 @@ pub fn put_port(
     count: u32,
     ring: &Ring,
 ) -> usize
-    requires { ⌜ at + 283 ≤ 65536 ⌝ }
+    requires { ⌜ at + 2203 ≤ 65536 ⌝ }
     ensures { λ r. ⌜
         Puts (now (out .entry)) at
         (portSays (portOf (now (regs .entry)) (start ∷ count ∷ []) (now (ring .entry))))
         (now (out .exit)) r
         ⌝ }
-    ensures { λ r. ⌜ r ≤ at + 283 ⌝ }
+    ensures { λ r. ⌜ r ≤ at + 2203 ⌝ }
 {
     let a = put_regs(out, at, regs);
     put_waiting(out, a, wide(start) % PLACES, capped(count), ring)
@@ -85,11 +82,11 @@ fn put_next(out: &mut Block, at: usize, byte: u8) -> usize
 
 // Ends an answer with the bytes that wait: their number, and they in order from `start` on, or `-`.
 fn put_waiting(out: &mut Block, at: usize, start: usize, count: u32, ring: &Ring) -> usize
-    requires { ⌜ at + 256 ≤ 65536 ⌝ }
+    requires { ⌜ at + 2176 ≤ 65536 ⌝ }
     requires { ⌜ start < places ⌝ }
-    requires { ⌜ count ≤ size ⌝ }
+    requires { ⌜ count ≤ places ⌝ }
     ensures { λ r. ⌜ Puts (now (out .entry)) at (waitingSay (queue places (now (ring .entry)) start count)) (now (out .exit)) r ⌝ }
-    ensures { λ r. ⌜ r ≤ at + 256 ⌝ }
+    ensures { λ r. ⌜ r ≤ at + 2176 ⌝ }
 {
     let a = put(out, at, b" ");
     let b = put_decimal(out, a, count);
@@ -103,11 +100,11 @@ fn put_waiting(out: &mut Block, at: usize, start: usize, count: u32, ring: &Ring
 
 // Puts the digits of `count` bytes of a ring from `start` on.
 fn put_ring(out: &mut Block, at: usize, start: usize, count: usize, ring: &Ring) -> usize
-    requires { ⌜ at + 128 ≤ 65536 ⌝ }
+    requires { ⌜ at + 2048 ≤ 65536 ⌝ }
     requires { ⌜ start < places ⌝ }
-    requires { ⌜ count ≤ size ⌝ }
+    requires { ⌜ count ≤ places ⌝ }
     ensures { λ r. ⌜ Puts (now (out .entry)) at (bytesSay (queue places (now (ring .entry)) start count)) (now (out .exit)) r ⌝ }
-    ensures { λ r. ⌜ r ≤ at + 128 ⌝ }
+    ensures { λ r. ⌜ r ≤ at + 2048 ⌝ }
 {
     let mut i = 0;
     let mut next = at;
@@ -118,15 +115,15 @@ fn put_ring(out: &mut Block, at: usize, start: usize, count: usize, ring: &Ring)
     next
 }
 
-// No more than `SIZE` bytes wait, whatever the count says.
+// No more bytes wait than the ring has places, whatever the count says.
 fn capped(count: u32) -> u32
-    ensures { λ r. ⌜ r ≡ min count size ⌝ }
-    ensures { λ r. ⌜ r ≤ size ⌝ }
+    ensures { λ r. ⌜ r ≡ min count places ⌝ }
+    ensures { λ r. ⌜ r ≤ places ⌝ }
 {
-    if count < SIZE {
+    if count < memory::PLACES {
         return count;
     }
-    SIZE
+    memory::PLACES
 }
 
 fn wide(x: u32) -> usize

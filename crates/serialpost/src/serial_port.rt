@@ -3,21 +3,21 @@ use serial::memory::Pos;
 use serial::memory::Regs;
 use serial::memory::Ring;
 ghost use Rattle.serial.specs.Port.{readOf, writeOf, inputOf};
-ghost use Rattle.serial.specs.Calls.{MakesFresh, Reads, Writes, TakesInput, HasRoom, IsHigh};
+ghost use Rattle.serial.specs.Calls.{Makes, Reads, Writes, TakesInput, HasSize, HasRoom, IsHigh};
 ghost use Rattle.play.specs.Play.{Plays};
 ghost use Rattle.serial_saved.specs.Calls.{Saves, Restores};
 ghost use Rattle.serial_form.specs.Form.{readForm};
 ghost use Rattle.serial_form.specs.Calls.{Encodes, Decodes};
 
 #[no_mangle]
-pub extern "C" fn serialpost_raw_serial_init(regs: &mut Regs, pos: &mut Pos)
-    ensures { λ r. ⌜ MakesFresh (now (regs .exit)) (now (pos .exit)) ⌝ }
+pub extern "C" fn serialpost4_serial_init(regs: &mut Regs, pos: &mut Pos, size: u32) -> u32
+    ensures { λ r. ⌜ Makes size (now (regs .entry)) (now (pos .entry)) (now (regs .exit)) (now (pos .exit)) r ⌝ }
 {
-    serial::init(regs, pos);
+    serial::init(regs, pos, size)
 }
 
 #[no_mangle]
-pub extern "C" fn serialpost_raw_serial_read(
+pub extern "C" fn serialpost4_serial_read(
     regs: &mut Regs,
     pos: &mut Pos,
     ring: &Ring,
@@ -32,7 +32,7 @@ pub extern "C" fn serialpost_raw_serial_read(
 }
 
 #[no_mangle]
-pub extern "C" fn serialpost_raw_serial_write(
+pub extern "C" fn serialpost4_serial_write(
     regs: &mut Regs,
     pos: &mut Pos,
     ring: &mut Ring,
@@ -48,7 +48,7 @@ pub extern "C" fn serialpost_raw_serial_write(
 }
 
 #[no_mangle]
-pub extern "C" fn serialpost_raw_serial_input(
+pub extern "C" fn serialpost4_serial_input(
     regs: &mut Regs,
     pos: &mut Pos,
     ring: &mut Ring,
@@ -63,21 +63,28 @@ pub extern "C" fn serialpost_raw_serial_input(
 }
 
 #[no_mangle]
-pub extern "C" fn serialpost_raw_serial_room(pos: &Pos) -> u32
-    ensures { λ r. ⌜ HasRoom (now (pos .entry)) r ⌝ }
+pub extern "C" fn serialpost4_serial_size(regs: &Regs) -> u32
+    ensures { λ r. ⌜ HasSize (now (regs .entry)) r ⌝ }
 {
-    serial::room(pos)
+    serial::size(regs)
 }
 
 #[no_mangle]
-pub extern "C" fn serialpost_raw_serial_line(regs: &Regs, pos: &Pos) -> bool
+pub extern "C" fn serialpost4_serial_room(regs: &Regs, pos: &Pos) -> u32
+    ensures { λ r. ⌜ HasRoom (now (regs .entry)) (now (pos .entry)) r ⌝ }
+{
+    serial::room(regs, pos)
+}
+
+#[no_mangle]
+pub extern "C" fn serialpost4_serial_line(regs: &Regs, pos: &Pos) -> bool
     ensures { λ r. ⌜ IsHigh (now (regs .entry)) (now (pos .entry)) r ⌝ }
 {
     serial::line(regs, pos)
 }
 
 #[no_mangle]
-pub extern "C" fn serialpost_raw_serial_play(
+pub extern "C" fn serialpost4_serial_play(
     regs: &mut Regs,
     pos: &mut Pos,
     ring: &mut Ring,
@@ -94,7 +101,7 @@ pub extern "C" fn serialpost_raw_serial_play(
 }
 
 #[no_mangle]
-pub extern "C" fn serialpost_raw_serial_save(
+pub extern "C" fn serialpost4_serial_save(
     regs: &Regs,
     pos: &Pos,
     ring: &Ring,
@@ -110,7 +117,7 @@ pub extern "C" fn serialpost_raw_serial_save(
 }
 
 #[no_mangle]
-pub extern "C" fn serialpost_raw_serial_restore(
+pub extern "C" fn serialpost4_serial_restore(
     regs: &mut Regs,
     pos: &mut Pos,
     ring: &mut Ring,
@@ -127,14 +134,14 @@ pub extern "C" fn serialpost_raw_serial_restore(
 }
 
 #[no_mangle]
-pub extern "C" fn serialpost_raw_serial_encode(saved: &Regs, waiting: &[u8], form: &mut [u8]) -> u32
+pub extern "C" fn serialpost4_serial_encode(saved: &Regs, waiting: &[u8], form: &mut [u8]) -> u32
     ensures { λ r. ⌜ Encodes (now (saved .entry)) (now (waiting .entry)) (now (form .entry)) (now (form .exit)) r ⌝ }
 {
     serial_form::encode(saved, waiting, form)
 }
 
 #[no_mangle]
-pub extern "C" fn serialpost_raw_serial_decode(
+pub extern "C" fn serialpost4_serial_decode(
     form: &[u8],
     saved: &mut Regs,
     waiting: &mut Ring,

@@ -23,6 +23,7 @@ pub record Original : Type 0 where
   pub lsr : ℕ
   pub msr : ℕ
   pub waiting : List ℕ
+  -- 64 in vm-superio. Here it is any, so that there is an original beside a port of every size.
   pub size : ℕ
 
 abbrev pub fresh : ℕ → Original

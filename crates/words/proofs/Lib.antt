@@ -1,5 +1,5 @@
 pub mod Putting
 mod Decimals
 mod Digits
-mod Patterns
+pub mod Patterns
 mod Pairs

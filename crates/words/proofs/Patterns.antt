@@ -1,8 +1,9 @@
 -- Laws of `fitsOf`, for a search that goes along a line and a pattern.
 use Prim.Native.Nat.{ℕ, suc, _+_, _-_, _≤_, _<_}
 use mathlib.Core.Path.{_≡_, refl, sym, ap, _∙_}
-use mathlib.Core.Bool.{Bool, true, false, _&&_}
+use mathlib.Core.Bool.{Bool, true, false, true≢false, _&&_}
 use mathlib.Core.List.{List, [], _∷_}
+use native.Mathlib.Decide.{ℕ-discrete}
 use native.Mathlib.Numerals.{add-one}
 use native.Mathlib.Omega.{arith}
 use lib.ListN.{length, getD, take, drop, length-take, drop-of-length-le}
@@ -20,6 +21,13 @@ other-length (p ∷ pattern) (c ∷ line) h = after (standsFor p c) (other-lengt
     after : (b : Bool) → fitsOf pattern line ≡ false → b && fitsOf pattern line ≡ false
     after true e = e
     after false e = refl
+
+pub same-length : (pattern line : List ℕ) → fitsOf pattern line ≡ true → length line ≡ length pattern
+same-length pattern line f = go (ℕ-discrete (length line) (length pattern))
+  where
+    go : Dec (length line ≡ length pattern) → length line ≡ length pattern
+    go (yes e) = e
+    go (no n) = absurd (true≢false (sym f ∙ other-length pattern line n))
 
 module _ (pattern line : List ℕ) (i : ℕ) where
   -- from a place on: the characters there, and the rest

@@ -51,8 +51,8 @@ impl Counters {
     /// All numbers are 0.
     pub fn new() -> Self {
         let (mut serial, mut clock) = ([0; 4], [0; 2]);
-        proved::serialpost_raw_serial_counters_init(&mut serial);
-        proved::serialpost_raw_clock_counters_init(&mut clock);
+        proved::serialpost4_serial_counters_init(&mut serial);
+        proved::serialpost4_clock_counters_init(&mut clock);
         Counters {
             serial: Mutex::new(serial),
             clock: Mutex::new(clock),
@@ -113,31 +113,31 @@ impl Default for Counters {
 
 impl SerialEvents for Counters {
     fn buffer_read(&self) {
-        proved::serialpost_raw_serial_count(&mut self.serial(), WORD_DATA_READ);
+        proved::serialpost4_serial_count(&mut self.serial(), WORD_DATA_READ);
     }
 
     fn out_byte(&self) {
-        proved::serialpost_raw_serial_count(&mut self.serial(), WORD_SENDS);
+        proved::serialpost4_serial_count(&mut self.serial(), WORD_SENDS);
     }
 
     fn tx_lost_byte(&self) {
         let mut numbers = self.serial();
-        proved::serialpost_raw_serial_count(&mut numbers, WORD_SENDS);
-        proved::serialpost_raw_serial_lost(&mut numbers);
+        proved::serialpost4_serial_count(&mut numbers, WORD_SENDS);
+        proved::serialpost4_serial_lost(&mut numbers);
     }
 
     fn in_buffer_empty(&self) {
-        proved::serialpost_raw_serial_count(&mut self.serial(), WORD_NONE_LEFT);
+        proved::serialpost4_serial_count(&mut self.serial(), WORD_NONE_LEFT);
     }
 }
 
 impl RtcEvents for Counters {
     fn invalid_read(&self) {
-        proved::serialpost_raw_clock_count_read(&mut self.clock(), WORD_REFUSED);
+        proved::serialpost4_clock_count_read(&mut self.clock(), WORD_REFUSED);
     }
 
     fn invalid_write(&self) {
-        proved::serialpost_raw_clock_count_write(&mut self.clock(), WORD_REFUSED);
+        proved::serialpost4_clock_count_write(&mut self.clock(), WORD_REFUSED);
     }
 }
 

@@ -15,8 +15,8 @@ pub enum FormError {
     Version,
     /// More than 64 bytes wait in a port.
     TooManyBytes,
-    /// A spare byte of a port or a spare word of a clock is not 0. Only who calls the library directly meets this: a state
-    /// of this crate has none.
+    /// A port has another size than 64 bytes. (Who calls the library directly meets this too where a spare byte of a port
+    /// or a spare word of a clock is not 0; a state of this crate has none of these.)
     Spare,
 }
 
@@ -26,8 +26,8 @@ impl fmt::Display for FormError {
             FormError::TooShort => "the form ends too early",
             FormError::TrailingBytes => "bytes follow the form",
             FormError::Version => "the form has a version that is not known",
-            FormError::TooManyBytes => "more bytes wait than a port has room for",
-            FormError::Spare => "a spare byte or word is not 0",
+            FormError::TooManyBytes => "more than 64 bytes wait in a port",
+            FormError::Spare => "a spare byte or word is not 0, or a port has not the usual size",
         })
     }
 }

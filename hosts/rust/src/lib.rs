@@ -44,7 +44,7 @@ pub use counters::Counters;
 pub use form::FormError;
 pub use i8042::I8042Device;
 pub use rtc_pl031::{Rtc, RtcState};
-pub use serial::{Serial, SerialState};
+pub use serial::{FullSerialState, Serial, SerialSize, SerialState, SizedSerial};
 
 /// How a device calls for attention: an interrupt line, or the event that resets the machine.
 pub trait Trigger {

@@ -1,5 +1,6 @@
 //! The proved functions of libserialpost.a, and what their answers mean. The crate's `unsafe` is all here.
 
+use crate::serial::SerialSize;
 use crate::FormError;
 
 /// How a port and a clock lie in memory: include/serialpost.h says what stands where.
@@ -17,39 +18,36 @@ pub(crate) type ClockCounters = [u64; 2];
 // apart. So a call is `safe` where all arguments are numbers and references.
 unsafe extern "C" {
     #[cfg(test)]
-    safe fn serialpost_raw_version() -> u32;
+    safe fn serialpost4_version() -> u32;
 
-    safe fn serialpost_raw_serial_init(regs: &mut Regs, pos: &mut Pos);
-    safe fn serialpost_raw_serial_read(
-        regs: &mut Regs,
-        pos: &mut Pos,
-        ring: &Ring,
-        offset: u8,
-    ) -> u32;
-    safe fn serialpost_raw_serial_write(
+    safe fn serialpost4_serial_init(regs: &mut Regs, pos: &mut Pos, size: u32) -> u32;
+    safe fn serialpost4_serial_read(regs: &mut Regs, pos: &mut Pos, ring: &Ring, offset: u8)
+        -> u32;
+    safe fn serialpost4_serial_write(
         regs: &mut Regs,
         pos: &mut Pos,
         ring: &mut Ring,
         offset: u8,
         value: u8,
     ) -> u32;
-    fn serialpost_raw_serial_input(
+    fn serialpost4_serial_input(
         regs: &mut Regs,
         pos: &mut Pos,
         ring: &mut Ring,
         input: *const u8,
         length: usize,
     ) -> u32;
-    safe fn serialpost_raw_serial_room(pos: &Pos) -> u32;
-    safe fn serialpost_raw_serial_line(regs: &Regs, pos: &Pos) -> bool;
-    safe fn serialpost_raw_serial_save(
+    safe fn serialpost4_serial_size(regs: &Regs) -> u32;
+    safe fn serialpost4_serial_room(regs: &Regs, pos: &Pos) -> u32;
+    safe fn serialpost4_serial_line(regs: &Regs, pos: &Pos) -> bool;
+    safe fn serialpost4_serial_save(
         regs: &Regs,
         pos: &Pos,
         ring: &Ring,
         saved: &mut Regs,
         waiting: &mut Ring,
     ) -> u32;
-    fn serialpost_raw_serial_restore(
+    fn serialpost4_serial_restore(
         regs: &mut Regs,
         pos: &mut Pos,
         ring: &mut Ring,
@@ -57,47 +55,47 @@ unsafe extern "C" {
         waiting: *const u8,
         length: usize,
     ) -> u32;
-    fn serialpost_raw_serial_encode(
+    fn serialpost4_serial_encode(
         saved: &Regs,
         waiting: *const u8,
         waiting_length: usize,
         form: *mut u8,
         form_length: usize,
     ) -> u32;
-    fn serialpost_raw_serial_decode(
+    fn serialpost4_serial_decode(
         form: *const u8,
         length: usize,
         saved: &mut Regs,
         waiting: &mut Ring,
     ) -> u32;
 
-    safe fn serialpost_raw_clock_init(clock: &mut Words);
-    safe fn serialpost_raw_clock_read(
+    safe fn serialpost4_clock_init(clock: &mut Words);
+    safe fn serialpost4_clock_read(
         clock: &Words,
         offset: u16,
         time: u64,
         bytes: &mut [u8; 4],
     ) -> u32;
-    safe fn serialpost_raw_clock_write(
+    safe fn serialpost4_clock_write(
         clock: &mut Words,
         offset: u16,
         time: u64,
         bytes: &[u8; 4],
     ) -> u32;
-    safe fn serialpost_raw_clock_save(clock: &Words, saved: &mut Words);
-    safe fn serialpost_raw_clock_restore(clock: &mut Words, saved: &Words) -> u32;
-    fn serialpost_raw_clock_encode(saved: &Words, form: *mut u8, length: usize) -> u32;
-    fn serialpost_raw_clock_decode(form: *const u8, length: usize, saved: &mut Words) -> u32;
+    safe fn serialpost4_clock_save(clock: &Words, saved: &mut Words);
+    safe fn serialpost4_clock_restore(clock: &mut Words, saved: &Words) -> u32;
+    fn serialpost4_clock_encode(saved: &Words, form: *mut u8, length: usize) -> u32;
+    fn serialpost4_clock_decode(form: *const u8, length: usize, saved: &mut Words) -> u32;
 
-    pub(crate) safe fn serialpost_raw_serial_counters_init(counters: &mut SerialCounters);
-    pub(crate) safe fn serialpost_raw_serial_count(counters: &mut SerialCounters, answer: u32);
-    pub(crate) safe fn serialpost_raw_serial_lost(counters: &mut SerialCounters);
-    pub(crate) safe fn serialpost_raw_clock_counters_init(counters: &mut ClockCounters);
-    pub(crate) safe fn serialpost_raw_clock_count_read(counters: &mut ClockCounters, answer: u32);
-    pub(crate) safe fn serialpost_raw_clock_count_write(counters: &mut ClockCounters, answer: u32);
+    pub(crate) safe fn serialpost4_serial_counters_init(counters: &mut SerialCounters);
+    pub(crate) safe fn serialpost4_serial_count(counters: &mut SerialCounters, answer: u32);
+    pub(crate) safe fn serialpost4_serial_lost(counters: &mut SerialCounters);
+    pub(crate) safe fn serialpost4_clock_counters_init(counters: &mut ClockCounters);
+    pub(crate) safe fn serialpost4_clock_count_read(counters: &mut ClockCounters, answer: u32);
+    pub(crate) safe fn serialpost4_clock_count_write(counters: &mut ClockCounters, answer: u32);
 
-    pub(crate) safe fn serialpost_raw_i8042_read(offset: u8) -> u8;
-    pub(crate) safe fn serialpost_raw_i8042_write(offset: u8, value: u8) -> bool;
+    pub(crate) safe fn serialpost4_i8042_read(offset: u8) -> u8;
+    pub(crate) safe fn serialpost4_i8042_write(offset: u8, value: u8) -> bool;
 }
 
 /// The bits of the word that a call answers, as include/serialpost_raw.h has them: a number, what there is to say beside
@@ -131,8 +129,8 @@ impl Answer {
         self.0 & bit != 0
     }
 
-    /// Of an input: the port is full. Of a restore: too many bytes. Of an access of the clock: no register can be read,
-    /// or written, there. Of a form: there is none.
+    /// Of a size: no port is made with it. Of an input: the port is full. Of a restore: too many bytes. Of an access of
+    /// the clock: no register can be read, or written, there. Of a form: there is none.
     #[inline]
     pub(crate) fn refused(self) -> bool {
         self.has(WORD_REFUSED)
@@ -198,10 +196,15 @@ impl Port {
         ring: [0; 1024],
     };
 
-    pub(crate) fn fresh() -> Self {
+    /// A fresh port in which so many bytes can wait, or none: a size is one of seven.
+    pub(crate) fn of_size(size: u32) -> Option<Self> {
         let mut port = Self::BLANK;
-        serialpost_raw_serial_init(&mut port.regs, &mut port.pos);
-        port
+        let answer = serialpost4_serial_init(&mut port.regs, &mut port.pos, size);
+        (!Answer(answer).refused()).then_some(port)
+    }
+
+    pub(crate) fn fresh(size: SerialSize) -> Self {
+        Self::of_size(size.0).expect("a port is made with each `SerialSize`")
     }
 
     /// A port that was written down, and what bringing it back answers. Where that is a refusal there is no such port.
@@ -209,7 +212,7 @@ impl Port {
         let mut port = Self::BLANK;
         // SAFETY: the pointer and the length are those of one slice, which is borrowed for the call.
         let answer = unsafe {
-            serialpost_raw_serial_restore(
+            serialpost4_serial_restore(
                 &mut port.regs,
                 &mut port.pos,
                 &mut port.ring,
@@ -225,13 +228,13 @@ impl Port {
     pub(crate) fn saved(&self) -> (Regs, Vec<u8>) {
         let (mut regs, mut waiting) = ([0; 16], [0; 1024]);
         let answer =
-            serialpost_raw_serial_save(&self.regs, &self.pos, &self.ring, &mut regs, &mut waiting);
+            serialpost4_serial_save(&self.regs, &self.pos, &self.ring, &mut regs, &mut waiting);
         (regs, waiting[..Answer(answer).number()].to_vec())
     }
 
     #[inline]
     pub(crate) fn read(&mut self, offset: u8) -> Answer {
-        Answer(serialpost_raw_serial_read(
+        Answer(serialpost4_serial_read(
             &mut self.regs,
             &mut self.pos,
             &self.ring,
@@ -241,7 +244,7 @@ impl Port {
 
     #[inline]
     pub(crate) fn write(&mut self, offset: u8, value: u8) -> Answer {
-        Answer(serialpost_raw_serial_write(
+        Answer(serialpost4_serial_write(
             &mut self.regs,
             &mut self.pos,
             &mut self.ring,
@@ -254,7 +257,7 @@ impl Port {
     pub(crate) fn input(&mut self, input: &[u8]) -> Answer {
         // SAFETY: the pointer and the length are those of one slice, which is borrowed for the call.
         Answer(unsafe {
-            serialpost_raw_serial_input(
+            serialpost4_serial_input(
                 &mut self.regs,
                 &mut self.pos,
                 &mut self.ring,
@@ -264,15 +267,24 @@ impl Port {
         })
     }
 
+    pub(crate) fn size(&self) -> usize {
+        size(&self.regs) as usize
+    }
+
     #[inline]
     pub(crate) fn room(&self) -> usize {
-        Answer(serialpost_raw_serial_room(&self.pos)).number()
+        serialpost4_serial_room(&self.regs, &self.pos) as usize
     }
 
     #[inline]
     pub(crate) fn line(&self) -> bool {
-        serialpost_raw_serial_line(&self.regs, &self.pos)
+        serialpost4_serial_line(&self.regs, &self.pos)
     }
+}
+
+/// The size that these registers tell.
+pub(crate) fn size(regs: &Regs) -> u32 {
+    serialpost4_serial_size(regs)
 }
 
 /// The memory of a clock: load, match, mask, raw status, the offset's low and high half, and two spare words.
@@ -282,32 +294,32 @@ pub(crate) struct Clock(Words);
 impl Clock {
     pub(crate) fn fresh() -> Self {
         let mut clock = Clock([0; 8]);
-        serialpost_raw_clock_init(&mut clock.0);
+        serialpost4_clock_init(&mut clock.0);
         clock
     }
 
     /// A clock that was written down, and what bringing it back answers.
     pub(crate) fn restored(saved: &Words) -> (Self, Answer) {
         let mut clock = Clock([0; 8]);
-        let answer = serialpost_raw_clock_restore(&mut clock.0, saved);
+        let answer = serialpost4_clock_restore(&mut clock.0, saved);
         (clock, Answer(answer))
     }
 
     /// The clock to be written down.
     pub(crate) fn saved(&self) -> Words {
         let mut saved = [0; 8];
-        serialpost_raw_clock_save(&self.0, &mut saved);
+        serialpost4_clock_save(&self.0, &mut saved);
         saved
     }
 
     #[inline]
     pub(crate) fn read(&self, offset: u16, time: u64, bytes: &mut [u8; 4]) -> Answer {
-        Answer(serialpost_raw_clock_read(&self.0, offset, time, bytes))
+        Answer(serialpost4_clock_read(&self.0, offset, time, bytes))
     }
 
     #[inline]
     pub(crate) fn write(&mut self, offset: u16, time: u64, bytes: &[u8; 4]) -> Answer {
-        Answer(serialpost_raw_clock_write(&mut self.0, offset, time, bytes))
+        Answer(serialpost4_clock_write(&mut self.0, offset, time, bytes))
     }
 }
 
@@ -321,7 +333,7 @@ pub(crate) fn port_to_bytes(regs: &Regs, waiting: &[u8]) -> Result<Vec<u8>, Form
     // SAFETY: each pointer and the length behind it are those of one slice, which is borrowed for the call, and the
     // two lie apart.
     let answer = unsafe {
-        serialpost_raw_serial_encode(
+        serialpost4_serial_encode(
             regs,
             waiting.as_ptr(),
             waiting.len(),
@@ -337,7 +349,7 @@ pub(crate) fn port_from_bytes(form: &[u8]) -> Result<(Regs, Vec<u8>), FormError>
     let (mut regs, mut waiting) = ([0; 16], [0; 1024]);
     // SAFETY: the pointer and the length are those of one slice, which is borrowed for the call.
     let answer =
-        unsafe { serialpost_raw_serial_decode(form.as_ptr(), form.len(), &mut regs, &mut waiting) };
+        unsafe { serialpost4_serial_decode(form.as_ptr(), form.len(), &mut regs, &mut waiting) };
     Ok((regs, waiting[..Answer(answer).of_form()?].to_vec()))
 }
 
@@ -345,7 +357,7 @@ pub(crate) fn port_from_bytes(form: &[u8]) -> Result<(Regs, Vec<u8>), FormError>
 pub(crate) fn clock_to_bytes(saved: &Words) -> Result<Vec<u8>, FormError> {
     let mut form = [0; CLOCK_FORM_SIZE];
     // SAFETY: the pointer and the length are those of one slice, which is borrowed for the call.
-    let answer = unsafe { serialpost_raw_clock_encode(saved, form.as_mut_ptr(), form.len()) };
+    let answer = unsafe { serialpost4_clock_encode(saved, form.as_mut_ptr(), form.len()) };
     Ok(form[..Answer(answer).of_form()?].to_vec())
 }
 
@@ -353,7 +365,7 @@ pub(crate) fn clock_to_bytes(saved: &Words) -> Result<Vec<u8>, FormError> {
 pub(crate) fn clock_from_bytes(form: &[u8]) -> Result<Words, FormError> {
     let mut saved = [0; 8];
     // SAFETY: the pointer and the length are those of one slice, which is borrowed for the call.
-    let answer = unsafe { serialpost_raw_clock_decode(form.as_ptr(), form.len(), &mut saved) };
+    let answer = unsafe { serialpost4_clock_decode(form.as_ptr(), form.len(), &mut saved) };
     Answer(answer).of_form().map(|_| saved)
 }
 
@@ -362,11 +374,13 @@ mod tests {
     use super::*;
 
     /// The interface that this crate is written for.
-    const VERSION: u32 = 3;
+    const VERSION: u32 = 4;
+    /// The register that tells a port's size.
+    const SIZE: usize = 15;
 
     #[test]
     fn the_library_has_the_interface_that_is_declared_here() {
-        assert_eq!(serialpost_raw_version(), VERSION);
+        assert_eq!(serialpost4_version(), VERSION);
         let header = include_str!("../../../include/serialpost.h");
         assert!(header.contains(&format!("#define SERIALPOST_VERSION {VERSION}\n")));
     }
@@ -376,25 +390,48 @@ mod tests {
         for bit in (0..32).map(|n| 1 << n) {
             let one = |told| u64::from(bit == told);
             let (mut port, mut clock) = ([7; 4], [7; 2]);
-            serialpost_raw_serial_counters_init(&mut port);
-            serialpost_raw_clock_counters_init(&mut clock);
-            serialpost_raw_serial_count(&mut port, bit);
-            serialpost_raw_serial_lost(&mut port);
+            serialpost4_serial_counters_init(&mut port);
+            serialpost4_clock_counters_init(&mut clock);
+            serialpost4_serial_count(&mut port, bit);
+            serialpost4_serial_lost(&mut port);
             let (reads, sent, empty) = (one(WORD_DATA_READ), one(WORD_SENDS), one(WORD_NONE_LEFT));
             assert_eq!(port, [reads, sent, 1, empty]);
-            serialpost_raw_clock_count_read(&mut clock, bit);
+            serialpost4_clock_count_read(&mut clock, bit);
             assert_eq!(clock, [one(WORD_REFUSED), 0]);
-            serialpost_raw_clock_count_write(&mut clock, bit);
+            serialpost4_clock_count_write(&mut clock, bit);
             assert_eq!(clock, [one(WORD_REFUSED); 2]);
         }
     }
 
+    /// Ports are made with seven sizes; memory may tell of others.
+    #[test]
+    fn each_register_tells_a_size() {
+        let mut made = vec![];
+        for register in 0..=u8::MAX {
+            let (mut regs, waiting) = Port::fresh(SerialSize::USUAL).saved();
+            regs[SIZE] = register;
+            let (port, answer) = Port::restored(&regs, &waiting);
+            let expected = (63 + 4 * usize::from(register)) % 1024 + 1;
+            assert_eq!((port.size(), port.room()), (expected, expected));
+            assert_eq!(answer.reachable(), Port::of_size(size(&regs)).is_some());
+            if answer.reachable() {
+                made.push((expected, register));
+            }
+        }
+        made.sort();
+        let registers = [244, 248, 0, 16, 48, 112, 240];
+        let sizes = [16, 32, 64, 128, 256, 512, 1024];
+        assert_eq!(made, sizes.into_iter().zip(registers).collect::<Vec<_>>());
+    }
+
     #[test]
     fn a_spare_register_or_word_has_no_form() {
-        let (mut regs, waiting) = Port::fresh().saved();
-        regs[9] = 1;
-        assert_eq!(port_to_bytes(&regs, &waiting), Err(FormError::Spare));
-        assert!(!Port::restored(&regs, &waiting).1.reachable());
+        for spare in 9..SIZE {
+            let (mut regs, waiting) = Port::fresh(SerialSize::USUAL).saved();
+            regs[spare] = 1;
+            assert_eq!(port_to_bytes(&regs, &waiting), Err(FormError::Spare));
+            assert!(!Port::restored(&regs, &waiting).1.reachable());
+        }
         let mut words = Clock::fresh().saved();
         words[7] = 1;
         assert_eq!(clock_to_bytes(&words), Err(FormError::Spare));

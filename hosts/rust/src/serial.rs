@@ -1,8 +1,9 @@
-//! A 16550 serial port with 64 bytes of input.
+//! A 16550 serial port. 64 bytes of input can wait in it, or as many as its maker chooses.
 
 use std::error;
 use std::fmt;
 use std::io::{self, Write};
+use std::marker::PhantomData;
 use std::sync::Arc;
 
 use crate::proved::{self, Port, Regs};
@@ -94,8 +95,50 @@ impl<EV: SerialEvents> SerialEvents for Arc<EV> {
     }
 }
 
-/// A port written down: its nine registers and the bytes that wait. Every one but those with more than 64 bytes can
-/// be brought back by [`Serial::from_state`].
+/// How many bytes of input can wait in a port: 16, 32, 64, 128, 256, 512 or 1,024.
+///
+/// vm-superio does not have this: its ports have the usual one.
+#[derive(Clone, Copy, Debug, Eq, Hash, Ord, PartialEq, PartialOrd)]
+pub struct SerialSize(pub(crate) u32);
+
+impl SerialSize {
+    /// 64 bytes: the size where none is chosen.
+    pub const USUAL: Self = SerialSize(64);
+
+    /// The size of so many bytes, where ports are made with it.
+    ///
+    /// ```
+    /// use serialpost::SerialSize;
+    ///
+    /// assert_eq!(SerialSize::new(1024).unwrap().bytes(), 1024);
+    /// SerialSize::new(1000).unwrap_err();
+    /// ```
+    pub fn new(bytes: usize) -> Result<Self, NoSize> {
+        let size = u32::try_from(bytes).map_err(|_| NoSize)?;
+        Port::of_size(size).ok_or(NoSize)?;
+        Ok(SerialSize(size))
+    }
+
+    /// How many bytes it is.
+    pub fn bytes(self) -> usize {
+        self.0 as usize
+    }
+}
+
+/// A number is no [`SerialSize`]: no port is made with it.
+#[derive(Clone, Copy, Debug, Eq, PartialEq)]
+pub struct NoSize;
+
+impl fmt::Display for NoSize {
+    fn fmt(&self, f: &mut fmt::Formatter) -> fmt::Result {
+        f.write_str("a port's size is 16, 32, 64, 128, 256, 512 or 1024 bytes")
+    }
+}
+
+impl error::Error for NoSize {}
+
+/// A port of the usual size written down: its nine registers and the bytes that wait. Every one but those with more than
+/// 64 bytes can be brought back by [`Serial::from_state`]. [`FullSerialState`] is for ports of any size.
 ///
 /// The default is the state of a fresh port.
 #[derive(Clone, Debug, Eq, PartialEq)]
@@ -133,7 +176,7 @@ impl SerialState {
     ///
     /// vm-superio does not have this.
     pub fn is_reachable(&self) -> bool {
-        Port::restored(&self.registers(), &self.in_buffer)
+        Port::restored(&self.registers(SerialSize::USUAL), &self.in_buffer)
             .1
             .reachable()
     }
@@ -151,7 +194,7 @@ impl SerialState {
     ///
     /// vm-superio does not have this.
     pub fn to_bytes(&self) -> Result<Vec<u8>, FormError> {
-        proved::port_to_bytes(&self.registers(), &self.in_buffer)
+        proved::port_to_bytes(&self.registers(SerialSize::USUAL), &self.in_buffer)
     }
 
     /// The state that was put into bytes; or why these are the form of none.
@@ -177,9 +220,9 @@ impl SerialState {
         }
     }
 
-    /// The registers as they lie in a port's memory, the spare ones 0.
-    fn registers(&self) -> Regs {
-        let mut regs = Regs::default();
+    /// The registers as they lie in the memory of a port of this size. Behind the nine they are a fresh port's.
+    fn registers(&self, size: SerialSize) -> Regs {
+        let (mut regs, _) = Port::fresh(size).saved();
         regs[..9].copy_from_slice(&[
             self.baud_divisor_low,
             self.interrupt_enable,
@@ -197,8 +240,76 @@ impl SerialState {
 
 impl Default for SerialState {
     fn default() -> Self {
-        let (registers, waiting) = Port::fresh().saved();
+        let (registers, waiting) = Port::fresh(SerialSize::USUAL).saved();
         Self::new(registers, waiting)
+    }
+}
+
+/// A port of any size written down: all that it has. Every one but those with more bytes than the size can be brought
+/// back by [`Serial::from_full_state`].
+///
+/// vm-superio does not have this. What a port has may become more, so it is made by [`new`](Self::new).
+#[derive(Clone, Debug, Eq, PartialEq)]
+#[non_exhaustive]
+pub struct FullSerialState {
+    /// Its registers and the bytes that wait, as many as the size at most.
+    pub state: SerialState,
+    /// How many can wait.
+    pub size: SerialSize,
+}
+
+impl FullSerialState {
+    /// The state of a port of this size.
+    pub fn new(state: SerialState, size: SerialSize) -> Self {
+        FullSerialState { state, size }
+    }
+
+    /// Whether some run of a port of this size from a fresh one leaves this state: as [`SerialState::is_reachable`].
+    pub fn is_reachable(&self) -> bool {
+        Port::restored(&self.registers(), &self.state.in_buffer)
+            .1
+            .reachable()
+    }
+
+    /// The state as bytes, in the form that docs/STATE-FORMAT.md tells. That form is for ports of the usual size. One of
+    /// another size has none, [`FormError::Spare`], and one with more than 64 bytes neither,
+    /// [`FormError::TooManyBytes`].
+    pub fn to_bytes(&self) -> Result<Vec<u8>, FormError> {
+        proved::port_to_bytes(&self.registers(), &self.state.in_buffer)
+    }
+
+    /// The state that was put into bytes; or why these are the form of none.
+    pub fn from_bytes(form: &[u8]) -> Result<Self, FormError> {
+        let (registers, waiting) = proved::port_from_bytes(form)?;
+        Ok(Self::of(registers, waiting))
+    }
+
+    fn of(registers: Regs, waiting: Vec<u8>) -> Self {
+        let size = SerialSize(proved::size(&registers));
+        Self::new(SerialState::new(registers, waiting), size)
+    }
+
+    fn registers(&self) -> Regs {
+        self.state.registers(self.size)
+    }
+}
+
+/// A state of vm-superio is one of a port of the usual size.
+impl From<SerialState> for FullSerialState {
+    fn from(state: SerialState) -> Self {
+        Self::new(state, SerialSize::USUAL)
+    }
+}
+
+/// A state that vm-superio can be given. That of a port of another size is handed back.
+impl TryFrom<FullSerialState> for SerialState {
+    type Error = FullSerialState;
+
+    fn try_from(full: FullSerialState) -> Result<Self, FullSerialState> {
+        match full.size {
+            SerialSize::USUAL => Ok(full.state),
+            _ => Err(full),
+        }
     }
 }
 
@@ -225,33 +336,62 @@ impl<E: fmt::Display> fmt::Display for Error<E> {
 
 impl<E: error::Error> error::Error for Error<E> {}
 
+/// Of a [`Serial`]: it has the usual size, 64 bytes, as every port of vm-superio.
+#[derive(Debug)]
+pub struct UsualSize;
+
+/// Of a [`Serial`]: its maker chose its size.
+#[derive(Debug)]
+pub struct AnySize;
+
+/// A serial port whose maker chose its size: [`Serial::with_size`].
+pub type SizedSerial<T, EV, W> = Serial<T, EV, W, AnySize>;
+
 /// A serial port. It raises its interrupt by a [`Trigger`], sends the guest's bytes to a writer and tells what happens
 /// to its [`SerialEvents`].
 ///
 /// Whatever fails on the host's side, the port goes on as if it had not: a guest cannot be made to wait.
+///
+/// Where nothing is said of the size this is vm-superio's type. A port of [`AnySize`] has another type, because
+/// vm-superio's [`SerialState`] does not tell a size: it has a [`full_state`](Self::full_state) and no `state`, so that
+/// no size is lost.
+///
+/// ```compile_fail,E0599
+/// # use serialpost::{serial::NoEvents, Serial, SerialSize, Trigger};
+/// # struct Line;
+/// # impl Trigger for Line {
+/// #     type E = ();
+/// #     fn trigger(&self) -> Result<(), ()> {
+/// #         Ok(())
+/// #     }
+/// # }
+/// let port = Serial::with_size(SerialSize::USUAL, Line, NoEvents, Vec::new());
+/// port.state(); // does not compile
+/// ```
 #[derive(Debug)]
-pub struct Serial<T: Trigger, EV: SerialEvents, W: Write> {
+pub struct Serial<T: Trigger, EV: SerialEvents, W: Write, S = UsualSize> {
     port: Port,
     interrupt_evt: T,
     events: EV,
     out: W,
+    size: PhantomData<S>,
 }
 
 impl<T: Trigger, W: Write> Serial<T, NoEvents, W> {
-    /// A fresh port that raises its interrupt by `trigger` and sends to `out`.
+    /// A fresh port of the usual size that raises its interrupt by `trigger` and sends to `out`.
     pub fn new(trigger: T, out: W) -> Self {
         Self::with_events(trigger, NoEvents, out)
     }
 }
 
 impl<T: Trigger, EV: SerialEvents, W: Write> Serial<T, EV, W> {
-    /// A fresh port that tells `serial_evts` what happens.
+    /// A fresh port of the usual size that tells `serial_evts` what happens.
     pub fn with_events(trigger: T, serial_evts: EV, out: W) -> Self {
-        Self::of(Port::fresh(), trigger, serial_evts, out)
+        Self::of(Port::fresh(SerialSize::USUAL), trigger, serial_evts, out)
     }
 
-    /// The port that was written down as `state`, on a new line and a new writer. To bring it back tells `serial_evts`
-    /// nothing.
+    /// The port of the usual size that was written down as `state`, on a new line and a new writer. To bring it back
+    /// tells `serial_evts` nothing.
     ///
     /// The interrupt is raised once for each kind that is enabled and pending: the new line may never have seen it.
     /// Where that fails there is no port and no further raise.
@@ -282,7 +422,77 @@ impl<T: Trigger, EV: SerialEvents, W: Write> Serial<T, EV, W> {
         serial_evts: EV,
         out: W,
     ) -> Result<Self, Error<T::E>> {
-        let (port, answer) = Port::restored(&state.registers(), &state.in_buffer);
+        let (registers, waiting) = (state.registers(SerialSize::USUAL), &state.in_buffer);
+        Self::restored(&registers, waiting, trigger, serial_evts, out)
+    }
+
+    /// The port, written down. It stays as it is.
+    pub fn state(&self) -> SerialState {
+        let (registers, waiting) = self.port.saved();
+        SerialState::new(registers, waiting)
+    }
+}
+
+impl<T: Trigger, EV: SerialEvents, W: Write> Serial<T, EV, W, AnySize> {
+    /// A fresh port of this size. Where no events are wanted `serial_evts` is [`NoEvents`].
+    ///
+    /// ```
+    /// use serialpost::serial::NoEvents;
+    /// use serialpost::{Serial, SerialSize};
+    /// # use serialpost::Trigger;
+    /// # struct Line;
+    /// # impl Trigger for Line {
+    /// #     type E = ();
+    /// #     fn trigger(&self) -> Result<(), ()> {
+    /// #         Ok(())
+    /// #     }
+    /// # }
+    ///
+    /// let size = SerialSize::new(1024).unwrap();
+    /// let mut port = Serial::with_size(size, Line, NoEvents, Vec::new());
+    /// assert_eq!(port.enqueue_raw_bytes(&[b'a'; 1000]).unwrap(), 1000);
+    /// assert_eq!((port.fifo_capacity(), port.fifo_size()), (24, 1024));
+    /// ```
+    ///
+    /// vm-superio does not have this.
+    pub fn with_size(size: SerialSize, trigger: T, serial_evts: EV, out: W) -> Self {
+        Self::of(Port::fresh(size), trigger, serial_evts, out)
+    }
+
+    /// The port that was written down as `full`, with its size: as [`from_state`](Serial::from_state) does it. A state
+    /// with more bytes than its size is refused with [`Error::FullFifo`], and nothing is raised.
+    ///
+    /// vm-superio does not have this.
+    pub fn from_full_state(
+        full: &FullSerialState,
+        trigger: T,
+        serial_evts: EV,
+        out: W,
+    ) -> Result<Self, Error<T::E>> {
+        let (registers, waiting) = (full.registers(), &full.state.in_buffer);
+        Self::restored(&registers, waiting, trigger, serial_evts, out)
+    }
+}
+
+impl<T: Trigger, EV: SerialEvents, W: Write, S> Serial<T, EV, W, S> {
+    fn of(port: Port, interrupt_evt: T, events: EV, out: W) -> Self {
+        Serial {
+            port,
+            interrupt_evt,
+            events,
+            out,
+            size: PhantomData,
+        }
+    }
+
+    fn restored(
+        registers: &Regs,
+        waiting: &[u8],
+        trigger: T,
+        serial_evts: EV,
+        out: W,
+    ) -> Result<Self, Error<T::E>> {
+        let (port, answer) = Port::restored(registers, waiting);
         if answer.refused() {
             return Err(Error::FullFifo);
         }
@@ -293,19 +503,12 @@ impl<T: Trigger, EV: SerialEvents, W: Write> Serial<T, EV, W> {
         Ok(serial)
     }
 
-    fn of(port: Port, interrupt_evt: T, events: EV, out: W) -> Self {
-        Serial {
-            port,
-            interrupt_evt,
-            events,
-            out,
-        }
-    }
-
-    /// The port, written down. It stays as it is.
-    pub fn state(&self) -> SerialState {
+    /// The port, written down with its size. It stays as it is.
+    ///
+    /// vm-superio does not have this.
+    pub fn full_state(&self) -> FullSerialState {
         let (registers, waiting) = self.port.saved();
-        SerialState::new(registers, waiting)
+        FullSerialState::of(registers, waiting)
     }
 
     /// Where the guest's bytes are sent.
@@ -361,9 +564,16 @@ impl<T: Trigger, EV: SerialEvents, W: Write> Serial<T, EV, W> {
         answer.reply()
     }
 
-    /// How many bytes [`enqueue_raw_bytes`](Self::enqueue_raw_bytes) could take now.
+    /// How many more bytes can wait: its size less those that do.
     pub fn fifo_capacity(&self) -> usize {
         self.port.room()
+    }
+
+    /// How many bytes can wait: its size.
+    ///
+    /// vm-superio does not have this.
+    pub fn fifo_size(&self) -> usize {
+        self.port.size()
     }
 
     /// Whether the interrupt line is high: something that is enabled is pending.

@@ -100,11 +100,11 @@ fn errors_say_what_is_wrong() {
             FormError::Version,
             "the form has a version that is not known",
         ),
+        (FormError::TooManyBytes, "more than 64 bytes wait in a port"),
         (
-            FormError::TooManyBytes,
-            "more bytes wait than a port has room for",
+            FormError::Spare,
+            "a spare byte or word is not 0, or a port has not the usual size",
         ),
-        (FormError::Spare, "a spare byte or word is not 0"),
     ];
     for (error, words) in errors {
         assert_eq!(error.to_string(), words);

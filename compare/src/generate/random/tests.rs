@@ -23,7 +23,11 @@ struct Met(HashMap<String, usize>);
 
 impl Met {
     fn on(text: &[u8]) -> Self {
-        let mut driver = Driver::new(Account::Original);
+        Met::by(Account::Original, text)
+    }
+
+    fn by(account: Account, text: &[u8]) -> Self {
+        let mut driver = Driver::new(account);
         let mut met = Met(HashMap::new());
         let mut into = "";
         let mut sent = false;
@@ -86,9 +90,16 @@ impl Met {
         if announces(driver, line) {
             self.note("announces");
         }
-        if let Some(SerialState { registers, buffer }) = driver.port() {
+        if let Some(SerialState {
+            registers,
+            buffer,
+            size,
+        }) = driver.port()
+        {
             let (open, looped) = (registers[LCR] & 0x80, registers[MCR] & 0x10);
-            self.note(&format!("{access} at {} {open:x} {looped:x}", buffer.len()));
+            let waiting = buffer.len();
+            self.note(&format!("{access} at {waiting} {open:x} {looped:x}"));
+            self.note(&format!("{access} at {waiting} of {size}"));
             self.note(&format!("IIR {:02x}", registers[IIR]));
         }
     }
@@ -130,6 +141,34 @@ fn every_limit_of_the_serial_port_is_visited() {
         met.holds(10, name);
     }
     met.holds(500, "malformed");
+}
+
+#[test]
+fn every_limit_of_a_port_of_every_size_is_visited() {
+    let options = Options {
+        devices: vec![Device::Serial],
+        sizes: true,
+        ..Options::default()
+    };
+    let met = Met::by(Account::Ours, &list(&options, 200_000, 1));
+    for size in SerialState::SIZES {
+        met.holds(50, format!("serial {size}"));
+        for waiting in [0, 1, size - 1, size] {
+            for access in ["r 00", "w 00", "b"] {
+                met.holds(10, format!("{access} at {waiting} of {size}"));
+            }
+        }
+        met.holds(10, format!("save at {size} of {size}"));
+        for length in [size - 1, size, size + 1, 3 * size + 8] {
+            met.holds(10, format!("input of {length}"));
+        }
+    }
+    for line in ["serial 48", "serial 65", "serial 1023", "serial 65552"] {
+        met.holds(5, line);
+    }
+    for answer in ["0 reached", "2 reached", "0 unreached", "full"] {
+        met.holds(5, format!("made up: restore {answer}"));
+    }
 }
 
 #[test]

@@ -7,6 +7,7 @@ use lib.ListN.{length}
 use Rattle.pieces.specs.Pieces.{Sound}
 use Rattle.lines.specs.Inside.{Turns}
 use Rattle.lines.proofs.Going.{goes-on}
+use Rattle.lines.proofs.Handing.{size-is-named}
 use Rattle.lines.proofs.Turning.{turn-begins, turn-clock, turn-port, turn-plain, turn-ends, devices}
 use borrow.Author.Needs.{needs}
 use Rattle.lines.proofs.answer.Statement.{statement}
@@ -63,7 +64,7 @@ enum-told-2 : tie.Need-enum-told-2 Inv-loop μ-loop
 enum-told-2 c = search needs
 
 serial-requires : tie.Need-serial-requires Inv-loop μ-loop
-serial-requires c κs = search needs
+serial-requires c κs = (search needs, size-is-named _ (c .before .before .before .before .before .next-line .result .kind) (c .before .before .before .before .before .before .before .before .before .loop .device) (c .before .before .before .task-of .ensures) (c .before .enum-told2 .given .1))
 
 loop-less-2 : tie.Need-loop-less-2 Inv-loop μ-loop
 loop-less-2 c = search needs

@@ -33,9 +33,9 @@ room-requires c κs = search needs
 
 returns-4 : tie.Need-returns-4
 returns-4 c =
-    let g = c .before .before .before .before .args in
-    let m = c .before .before .match .rest in
-    answers-room (g .kind) (g .a) (g .b) (g .bytes .now) (m .0 .0 .1) (m .0 .1) (m .1) (c .room .ensures _ _)
+    let g = c .before .before .before .before .before .args in
+    let m = c .before .before .before .match .rest in
+    answers-room (g .kind) (g .a) (g .b) (g .bytes .now) (m .0 .0 .1) (m .0 .1) (m .1) (c .room .ensures _)
 
 pub play-one-spec : {M : Type 1} → statement M
 play-one-spec =

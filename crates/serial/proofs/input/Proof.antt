@@ -15,24 +15,30 @@ is-loop-requires c κs = search needs
 
 returns : tie.Need-returns
 unfolding portOf
-returns c = let a = c .before .before .before .before .args in line-cut (a .regs .now) (a .pos .now) (a .ring .now) _ refl _ (sym (c .before .is-loop .ensures) ∙ c .if1 .taken)
+returns c = let a = c .before .before .before .before .args in line-cut (a .regs .now) (a .pos .now) (a .ring .now) _ (sym (c .before .is-loop .ensures) ∙ c .if1 .taken)
 
 returns-2 : tie.Need-returns-2
 unfolding portOf
-returns-2 c = let a = c .before .before .before .before .before .args in line-idle (a .regs .now) (a .pos .now) (a .ring .now) _ refl _ (sym (c .before .before .is-loop .ensures) ∙ c .before .if1 .left) (omega arith)
+returns-2 c = let a = c .before .before .before .before .before .args in line-idle (a .regs .now) (a .pos .now) (a .ring .now) _ (sym (c .before .before .is-loop .ensures) ∙ c .before .if1 .left) (omega arith)
 
-count-requires : tie.Need-count-requires
-count-requires c κs = search needs
+element-copy-out-n : tie.Need-element-copy-out-n
+element-copy-out-n c = search needs
+
+size-requires : tie.Need-size-requires
+size-requires c κs = search needs
 
 returns-3 : tie.Need-returns-3
 unfolding portOf
-returns-3 c = let a = c .before .before .before .before .before .before .before .before .args in line-full (a .regs .now) (a .pos .now) (a .ring .now) _ (c .before .count .ensures) _ (sym (c .before .before .before .before .before .is-loop .ensures) ∙ c .before .before .before .before .if1 .left) (c .before .before .before .if2 .left) (omega arith)
+returns-3 c = let a = c .before .before .before .before .before .before .before .before .before .args in line-full (a .regs .now) (a .pos .now) (a .ring .now) _ (sym (c .before .before .before .before .before .before .is-loop .ensures) ∙ c .before .before .before .before .before .if1 .left) (c .before .before .before .before .if2 .left) (omega (arith, c .if3 .taken, c .before .size .ensures))
 
 regs-len-requires : tie.Need-regs-len-requires
 regs-len-requires c κs = search needs
 
 pos-len-requires : tie.Need-pos-len-requires
 pos-len-requires c κs = search needs
+
+sub-fitting : tie.Need-sub-fitting
+sub-fitting c = search needs
 
 fitting-requires : tie.Need-fitting-requires
 fitting-requires c κs = search needs
@@ -60,7 +66,7 @@ add-result c = search needs
 
 returns-4 : tie.Need-returns-4
 unfolding portOf
-returns-4 c = let a = c .before .before .before .before .before .before .before .before .before .before .before .before .before .before .before .before .before .before .before .args in line-receives (a .regs .now) (a .pos .now) (a .ring .now) _ (c .before .before .before .before .before .before .before .before .before .before .before .before .count .ensures) _ (sym (c .before .before .before .before .before .before .before .before .before .before .before .before .before .before .before .before .is-loop .ensures) ∙ c .before .before .before .before .before .before .before .before .before .before .before .before .before .before .before .if1 .left) (c .before .before .before .before .before .before .before .before .before .before .before .before .before .before .if2 .left) (c .before .before .before .before .before .before .before .before .before .regs-len .ensures) (c .before .before .before .before .before .before .before .pos-len .ensures) _ (c .before .before .before .before .before .before .before .before .before .before .before .if3 .left) (c .before .before .before .before .before .before .fitting .ensures) (c .before .before .before .fill .ensures) (c .receive .ensures) refl
+returns-4 c = let a = c .before .before .before .before .before .before .before .before .before .before .before .before .before .before .before .before .before .before .before .before .args in line-receives (a .regs .now) (a .pos .now) (a .ring .now) _ (sym (c .before .before .before .before .before .before .before .before .before .before .before .before .before .before .before .before .before .is-loop .ensures) ∙ c .before .before .before .before .before .before .before .before .before .before .before .before .before .before .before .before .if1 .left) (c .before .before .before .before .before .before .before .before .before .before .before .before .before .before .before .if2 .left) (c .before .before .before .before .before .before .before .before .before .regs-len .ensures) (c .before .before .before .before .before .before .before .pos-len .ensures) _ _ refl (omega (arith, c .before .before .before .before .before .before .before .before .before .before .before .if3 .left, c .before .before .before .before .before .before .before .before .before .before .before .before .size .ensures)) (omega (arith, c .before .before .before .before .before .before .fitting .ensures, c .before .before .before .before .before .before .before .before .before .before .before .before .size .ensures)) (c .before .before .before .fill .ensures) (c .receive .ensures) refl
 
 pub input-spec : {M : Type 1} → statement M
 input-spec =
@@ -70,10 +76,12 @@ input-spec =
     is-loop-requires
     returns
     returns-2
-    count-requires
+    element-copy-out-n
+    size-requires
     returns-3
     regs-len-requires
     pos-len-requires
+    sub-fitting
     fitting-requires
     element-copy-out-fill
     fill-requires

@@ -25,7 +25,7 @@ put-requires-2 : tie.Need-put-requires-2
 put-requires-2 c κs = search needs
 
 returns : tie.Need-returns
-returns c = (λ regs ring. both (both (c .before .before .before .before .before .before .put .ensures) (instead (ap decimalOf (c .before .before .before .before .room .ensures regs ring)) (c .before .before .before .put-decimal .ensures .0))) (c .put2 .ensures), search needs)
+returns c = (λ ring. both (both (c .before .before .before .before .before .before .put .ensures) (instead (ap decimalOf (c .before .before .before .before .room .ensures ring)) (c .before .before .before .put-decimal .ensures .0))) (c .put2 .ensures), search needs)
 
 pub room-spec : {M : Type 1} → statement M
 room-spec =

@@ -3,8 +3,8 @@ use mathlib.Core.List.{List}
 use Prim.Native.Nat.{ℕ}
 use native.Mathlib.Omega.{arith}
 use borrow.Author.Tests.{not-true, not-false}
-use Rattle.serial_form.specs.Calls.{hasNoSpare}
-use Rattle.serial_form.proofs.Answers.{as-found, encode-refuses, encode-refuses-spare, encode-tells, encode-writes}
+use Rattle.serial_form.specs.Calls.{hasNoOther}
+use Rattle.serial_form.proofs.Answers.{as-found, encode-refuses, encode-refuses-other, encode-tells, encode-writes}
 use borrow.Author.Needs.{needs}
 use Rattle.serial_form.proofs.encode.Statement.{statement}
 use Rattle.serial_form.proofs.encode.Tie as tie
@@ -15,19 +15,19 @@ regs-len-requires c κs = search needs
 returns : tie.Need-returns
 returns c = encode-refuses _ _ _ (c .before .regs-len .ensures) (c .if1 .taken)
 
-are-spares-zero-requires : tie.Need-are-spares-zero-requires
-are-spares-zero-requires c κs = search needs
+are-others-zero-requires : tie.Need-are-others-zero-requires
+are-others-zero-requires c κs = search needs
 
--- whether the spare registers are 0
-abbrev saved : tie.After-are-spares-zero → List ℕ
+-- whether the other registers are 0
+abbrev saved : tie.After-are-others-zero → List ℕ
 saved c = c .before .before .before .before .before .args .saved .now
 
-found : (c : tie.After-are-spares-zero) → hasNoSpare (saved c) ≡ c .are-spares-zero .result
-found c = as-found (saved c) _ (c .before .before .regs-len .ensures) (c .are-spares-zero .ensures)
+found : (c : tie.After-are-others-zero) → hasNoOther (saved c) ≡ c .are-others-zero .result
+found c = as-found (saved c) _ (c .before .before .regs-len .ensures) (c .are-others-zero .ensures)
 
 returns-2 : tie.Need-returns-2
 returns-2 c =
-    encode-refuses-spare _ _ _ (c .before .before .before .regs-len .ensures) (c .before .before .if1 .left) (found (c .before) ∙ not-true _ (c .if2 .taken))
+    encode-refuses-other _ _ _ (c .before .before .before .regs-len .ensures) (c .before .before .if1 .left) (found (c .before) ∙ not-true _ (c .if2 .taken))
 
 add-len : tie.Need-add-len
 add-len c = search needs
@@ -62,7 +62,7 @@ encode-spec =
     (tie.spec
     regs-len-requires
     returns
-    are-spares-zero-requires
+    are-others-zero-requires
     returns-2
     add-len
     cast-result

@@ -9,10 +9,14 @@ use borrow.Author.Needs.{needs}
 use Rattle.serial_saved.proofs.restore.Statement.{statement}
 use Rattle.serial_saved.proofs.restore.Tie as tie
 
+size-requires : tie.Need-size-requires
+size-requires c κs = search needs
+
+cast-if1 : tie.Need-cast-if1
+cast-if1 c = search needs
+
 returns : tie.Need-returns
-returns c =
-    let a = c .before .before .args in
-    refuses (a .saved .now) (a .waiting .now) (a .regs .now) (a .pos .now) (a .ring .now) (omega (arith, c .if1 .taken))
+returns c = let a = c .before .before .before .args in refuses (a .saved .now) (a .waiting .now) (a .regs .now) (a .pos .now) (a .ring .now) (omega (arith, c .if1 .taken, c .before .size .ensures))
 
 pos-len-requires : tie.Need-pos-len-requires
 pos-len-requires c κs = search needs
@@ -47,7 +51,7 @@ raises-requires c κs = search needs
 -- no more than twice
 raised : (c : tie.After-raises) → c .raises .result ≤ 2
 raised c =
-    let a = c .before .before .before .before .before .before .before .before .before .before .args in
+    let a = c .before .before .before .before .before .before .before .before .before .before .before .args in
     omega (arith, c .raises .ensures (a .waiting .now) (some-is (a .waiting .now)), at-most-two (savedOf (a .saved .now) (a .waiting .now)))
 
 mul-result-2 : tie.Need-mul-result-2
@@ -57,16 +61,14 @@ add-result : tie.Need-add-result
 add-result c = omega (arith, raised c, as-number (c .before .is-reachable .result) .1)
 
 returns-2 : tie.Need-returns-2
-returns-2 c =
-    let a = c .before .before .before .before .before .before .before .before .before .before .args in
-    restores (a .saved .now) (a .waiting .now) (a .regs .now) (a .pos .now) (a .ring .now) _ _ _ _ (omega (arith, c .before .before .before .before .before .before .before .before .if1 .left))
-    (c .before .before .before .before .before .before .pos-len .ensures) (c .before .before .before .before .copy .ensures) (c .before .before .fill .ensures)
-    (c .before .is-reachable .ensures) (c .raises .ensures (a .waiting .now) (some-is (a .waiting .now)))
+returns-2 c = let a = c .before .before .before .before .before .before .before .before .before .before .before .args in restores (a .saved .now) (a .waiting .now) (a .regs .now) (a .pos .now) (a .ring .now) _ _ _ _ (omega (arith, c .before .before .before .before .before .before .before .before .if1 .left, c .before .before .before .before .before .before .before .before .before .size .ensures)) (c .before .before .before .before .before .before .pos-len .ensures) (c .before .before .before .before .copy .ensures) (c .before .before .fill .ensures) (c .before .is-reachable .ensures) (c .raises .ensures (a .waiting .now) (some-is (a .waiting .now)))
 
 pub restore-spec : {M : Type 1} → statement M
 restore-spec =
     tie.close
     (tie.spec
+    size-requires
+    cast-if1
     returns
     pos-len-requires
     copy-requires

@@ -1,5 +1,6 @@
 -- Each answer is a law of `Handing`.
-use mathlib.Core.Path.{sym, _∙_}
+use mathlib.Core.Path.{sym, ap, _∙_}
+use Rattle.serial.specs.Port.{isSize}
 use Rattle.lines.proofs.Handing.{is-reset, is-clock, is-serial, is-none}
 use borrow.Author.Needs.{needs}
 use Rattle.lines.proofs.devices.named.Statement.{statement}
@@ -23,17 +24,17 @@ fits-requires-2 c κs = search needs
 returns-2 : tie.Need-returns-2
 returns-2 c = is-clock _ (sym (c .before .before .before .before .fits2 .ensures) ∙ c .before .before .before .if1 .left) (sym (c .before .fits3 .ensures) ∙ c .if2 .taken)
 
-slice-aggregate-fits-3 : tie.Need-slice-aggregate-fits-3
-slice-aggregate-fits-3 c = search needs
+size-named-requires : tie.Need-size-named-requires
+size-named-requires c κs = search needs
 
-fits-requires-3 : tie.Need-fits-requires-3
-fits-requires-3 c κs = search needs
+is-size-requires : tie.Need-is-size-requires
+is-size-requires c κs = search needs
 
 returns-3 : tie.Need-returns-3
-returns-3 c = is-serial _ (sym (c .before .before .before .before .before .before .before .fits2 .ensures) ∙ c .before .before .before .before .before .before .if1 .left) (sym (c .before .before .before .before .fits3 .ensures) ∙ c .before .before .before .if2 .left) (sym (c .before .fits4 .ensures) ∙ c .if3 .taken)
+returns-3 c = is-serial _ (sym (c .before .before .before .before .before .before .before .fits2 .ensures) ∙ c .before .before .before .before .before .before .if1 .left) (sym (c .before .before .before .before .fits3 .ensures) ∙ c .before .before .before .if2 .left) (sym (c .before .is-size .ensures ∙ ap isSize (c .before .before .size-named .ensures)) ∙ c .if3 .taken)
 
 returns-4 : tie.Need-returns-4
-returns-4 c = is-none _ (sym (c .before .before .before .before .before .before .before .fits2 .ensures) ∙ c .before .before .before .before .before .before .if1 .left) (sym (c .before .before .before .before .fits3 .ensures) ∙ c .before .before .before .if2 .left) (sym (c .before .fits4 .ensures) ∙ c .if3 .left)
+returns-4 c = is-none _ (sym (c .before .before .before .before .before .before .before .fits2 .ensures) ∙ c .before .before .before .before .before .before .if1 .left) (sym (c .before .before .before .before .fits3 .ensures) ∙ c .before .before .before .if2 .left) (sym (c .before .is-size .ensures ∙ ap isSize (c .before .before .size-named .ensures)) ∙ c .if3 .left)
 
 pub named-spec : {M : Type 1} → statement M
 named-spec =
@@ -45,7 +46,7 @@ named-spec =
     slice-aggregate-fits-2
     fits-requires-2
     returns-2
-    slice-aggregate-fits-3
-    fits-requires-3
+    size-named-requires
+    is-size-requires
     returns-3
     returns-4)

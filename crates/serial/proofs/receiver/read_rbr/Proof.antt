@@ -2,7 +2,7 @@
 use native.Mathlib.Omega.{arith}
 use Prim.Native.Nat.{_≤_}
 use lib.ListN.{getD}
-use Rattle.serial.specs.Layout.{size, portOf}
+use Rattle.serial.specs.Layout.{places, portOf}
 use Rattle.serial.proofs.Reading.{reads-several, reads-last}
 use borrow.Author.Needs.{needs}
 use Rattle.serial.proofs.receiver.read_rbr.Statement.{statement}
@@ -45,7 +45,7 @@ returns c =
 several-requires : tie.Need-several-requires
 several-requires c κs = search needs
 
-several : (c : tie.Then2) → let n = getD (c .before .before .before .before .before .before .args .pos .now) 1 0 in (2 ≤ n) × (n ≤ size)
+several : (c : tie.Then2) → let n = getD (c .before .before .before .before .before .before .args .pos .now) 1 0 in (2 ≤ n) × (n ≤ places)
 several c = c .before .several .ensures (c .if2 .taken)
 
 take-requires-2 : tie.Need-take-requires-2

@@ -1,5 +1,6 @@
 -- The answer is put together from what the rooms promise.
 use mathlib.Core.Path.{refl}
+use Rattle.serial.proofs.Leaves.{lsr-stays}
 use borrow.Author.Needs.{needs}
 use Rattle.serial.proofs.receiver.receive.Statement.{statement}
 use Rattle.serial.proofs.receiver.receive.Tie as tie
@@ -9,9 +10,6 @@ regs-len-requires c κs = search needs
 
 pos-len-requires : tie.Need-pos-len-requires
 pos-len-requires c κs = search needs
-
-element-copy-out-lsr : tie.Need-element-copy-out-lsr
-element-copy-out-lsr c = search needs
 
 element-copy-out-waits : tie.Need-element-copy-out-waits
 element-copy-out-waits c = search needs
@@ -31,6 +29,9 @@ data-came-requires c κs = search needs
 store-requires : tie.Need-store-requires
 store-requires c κs = search needs
 
+element-copy-out-ready : tie.Need-element-copy-out-ready
+element-copy-out-ready c = search needs
+
 ready-requires : tie.Need-ready-requires
 ready-requires c κs = search needs
 
@@ -38,9 +39,7 @@ element-write-regs : tie.Need-element-write-regs
 element-write-regs c = search needs
 
 returns : tie.Need-returns
-returns c =
-    let told = c .before .before .before .data-came .ensures in
-    record { stored = rw (c .before .store .ensures, told .stored, c .ready .ensures); counted = refl; raised = told .raised; once = told .few }
+returns c = let told = c .before .before .before .before .data-came .ensures in record { stored = rw (c .before .before .store .ensures, c .ready .ensures, c .before .before .store .ensures, lsr-stays (c .before .before .before .before .before .before .before .before .before .before .before .before .args .regs .now) _, told .stored); counted = refl; raised = told .raised; once = told .few }
 
 pub receive-spec : {M : Type 1} → statement M
 receive-spec =
@@ -48,13 +47,13 @@ receive-spec =
     (tie.spec
     regs-len-requires
     pos-len-requires
-    element-copy-out-lsr
     element-copy-out-waits
     element-write-pos
     element-copy-out-iir
     element-copy-out-data-came
     data-came-requires
     store-requires
+    element-copy-out-ready
     ready-requires
     element-write-regs
     returns)

@@ -1,5 +1,6 @@
 -- Each answer is a law of `Looping`.
 use native.Mathlib.Omega.{arith}
+use mathlib.Core.Path.{refl}
 use Rattle.serial.proofs.Looping.{loop-drops, loop-receives}
 use borrow.Author.Needs.{needs}
 use Rattle.serial.proofs.transmitter.write_loop.Statement.{statement}
@@ -23,11 +24,11 @@ regs-len-requires c κs = search needs
 pos-len-requires : tie.Need-pos-len-requires
 pos-len-requires c κs = search needs
 
-count-requires : tie.Need-count-requires
-count-requires c κs = search needs
+element-copy-out-n : tie.Need-element-copy-out-n
+element-copy-out-n c = search needs
 
-element-copy-out-emptied : tie.Need-element-copy-out-emptied
-element-copy-out-emptied c = search needs
+size-requires : tie.Need-size-requires
+size-requires c κs = search needs
 
 emptied-requires : tie.Need-emptied-requires
 emptied-requires c κs = search needs
@@ -39,9 +40,7 @@ add-result : tie.Need-add-result
 add-result c = search needs
 
 returns-2 : tie.Need-returns-2
-returns-2 c =
-    let a = c .before .before .before .before .before .before .before .before .before .before .before .before .before .args in
-    loop-drops (a .regs .now) (a .pos .now) (a .ring .now) (c .before .before .before .before .before .before .before .before .regs-len .ensures) _ (c .before .before .before .before .count .ensures) (a .value) (c .before .emptied .ensures) (c .if2 .taken) (omega arith)
+returns-2 c = let a = c .before .before .before .before .before .before .before .before .before .before .before .before .before .args in loop-drops (a .regs .now) (a .pos .now) (a .ring .now) (c .before .before .before .before .before .before .before .before .regs-len .ensures) _ refl (a .value) (c .before .emptied .ensures) (omega (arith, c .if2 .taken, c .before .before .before .size .ensures)) (omega arith)
 
 element-copy-out-push : tie.Need-element-copy-out-push
 element-copy-out-push c = search needs
@@ -65,10 +64,7 @@ add-result-3 : tie.Need-add-result-3
 add-result-3 c = search needs
 
 returns-3 : tie.Need-returns-3
-returns-3 c =
-    let a = c .before .before .before .before .before .before .before .before .before .before .before .before .before .before .before .before .before .before .before .args in
-    loop-receives (a .regs .now) (a .pos .now) (a .ring .now) (c .before .before .before .before .before .before .before .before .before .before .before .before .before .before .regs-len .ensures) _ (c .before .before .before .before .before .before .before .before .before .before .count .ensures) (a .value) (c .before .before .before .before .before .before .before .before .before .before .before .before .pos-len .ensures) (c .before .before .before .before .before .before .before .emptied .ensures) (c .before .before .before .before .before .before .if2 .left)
-    (c .before .before .before .push .ensures) (c .receive .ensures) (omega arith)
+returns-3 c = let a = c .before .before .before .before .before .before .before .before .before .before .before .before .before .before .before .before .before .before .before .args in loop-receives (a .regs .now) (a .pos .now) (a .ring .now) (c .before .before .before .before .before .before .before .before .before .before .before .before .before .before .regs-len .ensures) _ refl (a .value) (c .before .before .before .before .before .before .before .before .before .before .before .before .pos-len .ensures) (c .before .before .before .before .before .before .before .emptied .ensures) (omega (arith, c .before .before .before .before .before .before .if2 .left, c .before .before .before .before .before .before .before .before .before .size .ensures)) (c .before .before .before .push .ensures) (c .receive .ensures) (omega arith)
 
 pub write-loop-spec : {M : Type 1} → statement M
 write-loop-spec =
@@ -80,8 +76,8 @@ write-loop-spec =
     returns
     regs-len-requires
     pos-len-requires
-    count-requires
-    element-copy-out-emptied
+    element-copy-out-n
+    size-requires
     emptied-requires
     mul-result
     add-result

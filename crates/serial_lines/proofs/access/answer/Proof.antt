@@ -87,7 +87,7 @@ returns-4 : tie.Need-returns-4
 returns-4 c = (λ saved waiting count. by-access _ (c .before .before .before .before .before .enum-told2 .given .1) (c .input-of .ensures _ _ _), by-word _ _ (c .before .before .before .before .before .enum-told2 .given .1) (input-makes-none (c .before .before .before .before .before .before .before .before .args .line .now) _))
 
 returns-5 : tie.Need-returns-5
-returns-5 c = (λ saved waiting count. by-access _ (c .before .before .before .enum-told3 .given .1) (room-said _ (c .room .ensures .0 _ _) (search needs)), by-word _ _ (c .before .before .before .enum-told3 .given .1) refl)
+returns-5 c = (λ saved waiting count. by-access _ (c .before .before .before .before .enum-told3 .given .1) (room-said _ (c .room .ensures .0 _) (search needs)), by-word _ _ (c .before .before .before .before .enum-told3 .given .1) refl)
 
 returns-6 : tie.Need-returns-6
 returns-6 c = (λ saved waiting count. by-access _ (c .before .before .before .before .before .enum-told4 .given .1) (state-said _ (c .state .ensures .0) (search needs)), by-word _ _ (c .before .before .before .before .before .enum-told4 .given .1) refl)
