@@ -84,18 +84,20 @@ beside() {
     check "$1: rows of ${2##*/} and ${3##*/}" "$tools"/compare --rows "$2" "$3" "$4"
 }
 
-# judge WHAT ARGUMENT..: whether all are as they should on such a list: original, account and replay.
+# judge WHAT ARGUMENT..: whether all are as they should on such a list: original, account and replay. Beside ours the original is
+# one whose guest reads what ours throws away; that too is held to its account.
 judge() {
     local what=$1 devices=()
     shift
     [ -z "$replay" ] || devices=(--devices "$replay_devices")
     if [ -n "$original" ]; then
         agree "$what" original "$account" "$(list "$@")"
+        agree "$what" "original --fetches" "$account --fetches" "$(list "$@")"
     fi
     if [ -n "$replay" ]; then
         agree "$what" account "$replay" "$(list "$@" "${devices[@]}")"
     fi
-    beside "$what" "${original:-$account}" "${replay:-account}" "$(list "$@" "${devices[@]}" $domain)"
+    beside "$what" "${original:-$account} --fetches" "${replay:-account}" "$(list "$@" "${devices[@]}" $domain)"
 }
 
 # sized WHAT ARGUMENT..: whether replay answers as our account on such a list, which has ports of all sizes. The original has one

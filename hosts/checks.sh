@@ -35,16 +35,16 @@ compile() {
     "$@" -std=c11 -Wall -Wextra -Werror -Iinclude
 }
 
-# older_host COMPILER ARCHIVE: whether what was compiled for version 3 does not link, and the linker names what it misses.
+# older_host COMPILER ARCHIVE: whether what was compiled for version 4 does not link, and the linker names what it misses.
 older_host() {
-    object=$out/version3.o
-    missing=serialpost_raw_serial_init
-    compile "$1" -c -o "$object" hosts/c/version3.c || return 1
-    if LC_ALL=C "$1" -o "$out/version3" "$object" "$2" 2>"$out/version3.log"; then
+    object=$out/version4.o
+    missing=serialpost4_serial_write
+    compile "$1" -c -o "$object" hosts/c/version4.c || return 1
+    if LC_ALL=C "$1" -o "$out/version4" "$object" "$2" 2>"$out/version4.log"; then
         echo "it links"
         return 1
     fi
-    grep -q "undefined reference to .$missing" "$out/version3.log" || { cat "$out/version3.log"; return 1; }
+    grep -q "undefined reference to .$missing" "$out/version4.log" || { cat "$out/version4.log"; return 1; }
 }
 
 # recorded_forms HOW, readme_lines HOW: where HOW NAME builds and runs hosts/c/NAME.c

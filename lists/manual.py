@@ -13,7 +13,7 @@ held to it, and every other list that has such a column; but not a list with a l
 Beside the answers of docs/REPLAY.md the column knows `not said`, where the manual is silent, and `as before`, for a register
 that a reset leaves alone. A serial port's N is 1 where the interrupt pin rises at some moment of the access, else 0; `b T` is
 how many bytes come. `room`, `state`, `save` and `counters` ask the device, `lost` tells it of the host's sink: there is nothing
-like them on a chip, and they have no column. A clock's `w` has no answer, and `now` lets the seconds pass.
+like them on a chip, and they have no column. Nor does a chip tell how many bytes FCR threw away. A clock's `w` has no answer, and `now` lets the seconds pass.
 A port of another size is the same chip, whose size is 16.
 
 Exit status: 0 done, or all as told; 1 some file differs; 2 a list cannot be used.
@@ -56,7 +56,7 @@ SERIAL = {
     r"r (..) => r (..) (\d)": lambda at, v, n: f"r 0x{at} 0x{v} {n}",
     r"r (..) => not said": lambda at: f"r? 0x{at}",
     r"r (00|01|07) => as before": lambda at: f"kept (read 0x{at}) (λ c. c .{KEPT[at]})",
-    r"w (..) (..) => w -- (\d)": lambda at, v, n: f"w 0x{at} 0x{v} {n}",
+    r"w (..) (..) => w -(?:-|\d+) (\d)": lambda at, v, n: f"w 0x{at} 0x{v} {n}",
     r"w (..) (..) => w ([0-9a-f]{2}) (\d)": lambda at, v, sent, n: f"sends 0x{at} 0x{v} 0x{sent} {n}",
     r"b ?((?:..)*) => b (\d+) (\d)": lambda bytes_, t, n: f"b {numbers(bytes_)} {t} {n}",
     r"line => line ([01])": lambda l: f"level {l}",

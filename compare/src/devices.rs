@@ -16,13 +16,22 @@ pub const MCR: usize = 6;
 pub const MSR: usize = 7;
 pub const SCR: usize = 8;
 
+/// The bit of FCR that empties the receiver.
+const FCR_EMPTIES: u8 = 0x02;
+
+/// Whether a write is one that empties the receiver of ours.
+pub fn flushes(offset: u8, value: u8) -> bool {
+    offset == 2 && value & FCR_EMPTIES != 0
+}
+
 /// The serial port's nine registers in the order of the `state` answer, the bytes that wait to be read, first
-/// in front, and how many can. An answer does not tell the last.
+/// in front, how many can, and what is remembered of FCR. No answer tells the last two.
 #[derive(Clone, Debug, PartialEq, Eq, Hash)]
 pub struct SerialState {
     pub registers: [u8; 9],
     pub buffer: Vec<u8>,
     pub size: usize,
+    pub fcr: u8,
 }
 
 impl SerialState {
@@ -37,6 +46,11 @@ impl SerialState {
 
     pub fn room(&self) -> usize {
         self.size.saturating_sub(self.buffer.len())
+    }
+
+    /// Whether there is something to be thrown away: a byte, or that LSR says so.
+    pub fn is_to_empty(&self) -> bool {
+        self.waits() || self.registers[LSR] & 0x01 != 0
     }
 
     pub fn divisor_is_open(&self) -> bool {
@@ -65,18 +79,35 @@ pub type PortCounters = [usize; 4];
 /// How often, since the device was named, a read was invalid, and a write.
 pub type ClockCounters = [usize; 2];
 
+/// What a write did.
+#[derive(Clone, Copy, Debug, PartialEq, Eq)]
+pub enum Written {
+    /// Nothing that an answer tells.
+    Quietly,
+    Sent(u8),
+    /// The receiver was emptied, and so many bytes thrown away. vm-superio has no such write.
+    Flushed(usize),
+}
+
+impl From<Option<u8>> for Written {
+    fn from(sent: Option<u8>) -> Self {
+        sent.map_or(Written::Quietly, Written::Sent)
+    }
+}
+
 pub trait Serial {
-    /// Answers the byte sent, if one was.
-    fn write(&mut self, offset: u8, value: u8) -> (Option<u8>, Raised);
+    fn write(&mut self, offset: u8, value: u8) -> (Written, Raised);
     /// A write to which `lost` comes next: if it sends a byte, that is the one. Only a device whose own
     /// sink can fail need know beforehand.
-    fn write_to_lose(&mut self, offset: u8, value: u8) -> (Option<u8>, Raised) {
+    fn write_to_lose(&mut self, offset: u8, value: u8) -> (Written, Raised) {
         self.write(offset, value)
     }
     /// The host says that the sink did not take the byte that was sent last.
     fn lost(&mut self);
     fn counters(&self) -> PortCounters;
     fn read(&mut self, offset: u8) -> (u8, Raised);
+    /// A read that nobody hears of: it is not counted.
+    fn read_unheard(&mut self, offset: u8);
     /// Answers how many of the bytes were taken, or none if they were refused because the buffer is full.
     fn input(&mut self, bytes: &[u8]) -> (Option<usize>, Raised);
     fn room(&self) -> usize;

@@ -2,7 +2,7 @@
 
 use std::io::{self, BufRead, Write};
 
-use crate::devices::{Clock, ClockState, Devices, Serial, SerialState, I8042};
+use crate::devices::{flushes, Clock, ClockState, Devices, Serial, SerialState, I8042, LCR};
 use crate::format::{self, Device, Operation, Operation::*, Words};
 
 /// The device that operations speak to, until another one is started. The clock has the time with it.
@@ -16,6 +16,8 @@ enum Current {
 /// What is kept is what was saved last, of each kind. It outlives the device that it was saved from.
 pub struct Driver<D: Devices> {
     devices: D,
+    /// Whether the guest reads what a port of ours would throw away.
+    fetches: bool,
     current: Current,
     kept_port: Option<SerialState>,
     kept_clock: Option<ClockState>,
@@ -25,9 +27,20 @@ impl<D: Devices> Driver<D> {
     pub fn new(devices: D) -> Self {
         Driver {
             devices,
+            fetches: false,
             current: Current::None,
             kept_port: None,
             kept_clock: None,
+        }
+    }
+
+    /// Drives vm-superio beside ours. A write of FCR by which ours throws away what waits does nothing there, and the
+    /// two would differ for ever after. So the guest reads what waits, at such a write. These reads are no lines of the
+    /// list: they have no answers, and are not counted.
+    pub fn fetching(devices: D) -> Self {
+        Driver {
+            fetches: true,
+            ..Driver::new(devices)
         }
     }
 
@@ -94,9 +107,17 @@ impl<D: Devices> Driver<D> {
         }
         match &mut self.current {
             Current::None => None,
-            Current::Serial(port) => {
-                on_serial(&mut **port, &mut self.kept_port, operation, is_lost)
-            }
+            Current::Serial(port) => match *operation {
+                WriteByte(offset, value) => {
+                    let before = (self.fetches && flushes(offset, value)).then(|| port.state());
+                    let answer = write(&mut **port, offset, value, is_lost);
+                    if let Some(before) = before.filter(SerialState::is_to_empty) {
+                        fetch_all(&mut **port, &before);
+                    }
+                    Some(answer)
+                }
+                _ => on_serial(&mut **port, &mut self.kept_port, operation),
+            },
             Current::Clock(clock, now) => {
                 on_clock(&mut **clock, now, &mut self.kept_clock, operation)
             }
@@ -105,19 +126,29 @@ impl<D: Devices> Driver<D> {
     }
 }
 
+fn write(port: &mut dyn Serial, offset: u8, value: u8, is_lost: bool) -> Words {
+    let (written, raised) = match is_lost {
+        true => port.write_to_lose(offset, value),
+        false => port.write(offset, value),
+    };
+    Words::start("w").written(written).number(raised)
+}
+
+/// Reads RBR, the divisor closed for it, once for each byte that waited; once where LSR alone said that one did.
+fn fetch_all(port: &mut dyn Serial, before: &SerialState) {
+    port.write(3, 0x00);
+    for _ in 0..before.buffer.len().max(1) {
+        port.read_unheard(0);
+    }
+    port.write(3, before.registers[LCR]);
+}
+
 fn on_serial(
     port: &mut dyn Serial,
     kept: &mut Option<SerialState>,
     asked: &Operation,
-    is_lost: bool,
 ) -> Option<Words> {
-    let written = |(sent, raised)| match sent {
-        Some(sent) => Words::start("w").hex(&[sent]).number(raised),
-        None => Words::start("w --").number(raised),
-    };
     Some(match asked {
-        WriteByte(offset, value) if is_lost => written(port.write_to_lose(*offset, *value)),
-        WriteByte(offset, value) => written(port.write(*offset, *value)),
         ReadByte(offset) => {
             let (value, raised) = port.read(*offset);
             Words::start("r").hex(&[value]).number(raised)
@@ -237,9 +268,8 @@ impl Talk {
 }
 
 /// Answers a whole list from standard input on standard output, each line before it waits for the next.
-pub fn serve(devices: impl Devices) -> io::Result<()> {
+pub fn serve(mut driver: Driver<impl Devices>) -> io::Result<()> {
     let mut talk = Talk::new();
-    let mut driver = Driver::new(devices);
     let mut line = Vec::new();
     while talk.read_on(&mut line)? {
         talk.output.write_all(&driver.answer(&line))?;
@@ -248,9 +278,8 @@ pub fn serve(devices: impl Devices) -> io::Result<()> {
 }
 
 /// The same for devices whose own sink can fail: each line is answered when the next one is known.
-pub fn serve_ahead(devices: impl Devices) -> io::Result<()> {
+pub fn serve_ahead(mut driver: Driver<impl Devices>) -> io::Result<()> {
     let mut talk = Talk::new();
-    let mut driver = Driver::new(devices);
     let [mut line, mut next] = [Vec::new(), Vec::new()];
     let mut goes_on = talk.read_on(&mut line)?;
     while goes_on {

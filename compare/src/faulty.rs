@@ -6,7 +6,7 @@ use crate::account::serial::{
     Kind, IIR_NONE, KINDS, LSR_DATA_READY, RECEIVED_DATA, TRANSMITTER_EMPTY,
 };
 use crate::account::{clock::cut, reached, Account};
-use crate::devices::{ClockState, SerialState, IIR, LSR, SCR};
+use crate::devices::{flushes, ClockState, SerialState, IIR, LSR, SCR};
 use crate::driver::Driver;
 use crate::format::{asking_lines, is_start, parse, Device, Operation, Operation::*, Words};
 
@@ -18,7 +18,7 @@ const I8042: Option<Device> = Some(Device::I8042);
 /// name it is asked for by, and what is wrong. A name that is misspelled below plants nothing, and the
 /// tests that look for the fault fail.
 #[rustfmt::skip]
-pub const FAULTS: [(Option<Device>, &str, &str); 53] = [
+pub const FAULTS: [(Option<Device>, &str, &str); 69] = [
     (SERIAL, "byte-65-replaces", "in loopback a byte that finds no room takes the place of the last one"),
     (SERIAL, "data-ready-stays", "LSR says that data is ready after the last byte was read"),
     (SERIAL, "data-ready-goes-early", "LSR says that no data is ready while bytes wait"),
@@ -57,6 +57,22 @@ pub const FAULTS: [(Option<Device>, &str, &str); 53] = [
     (SERIAL, "lost-not-believed", "a lost byte is not counted where none was sent"),
     (SERIAL, "restore-forgets-counters", "a port that is brought back counts from 0"),
     (SERIAL, "fresh-port-counts-on", "a fresh port counts on from the one before"),
+    (SERIAL, "flush-does-nothing", "FCR 0x02 does nothing, as in vm-superio"),
+    (SERIAL, "flush-needs-enable", "FCR 0x02 empties the receiver only with 0x01"),
+    (SERIAL, "flush-by-04", "FCR 0x04 empties the receiver, too"),
+    (SERIAL, "flush-by-change", "FCR 0x01 written as 0 empties the receiver, too"),
+    (SERIAL, "flush-not-with-divisor", "FCR 0x02 does nothing while the divisor is open"),
+    (SERIAL, "flush-keeps-data-ready", "LSR says that data is ready after a flush"),
+    (SERIAL, "flush-keeps-line", "the line stays high after a flush"),
+    (SERIAL, "flush-keeps-shown", "IIR shows received data after a flush"),
+    (SERIAL, "flush-keeps-mark", "IIR as it is stored has received data marked after a flush"),
+    (SERIAL, "flush-keeps-byte", "the last byte still waits after a flush"),
+    (SERIAL, "flush-resets", "a flush resets the transmitter's interrupt"),
+    (SERIAL, "flush-raises", "a flush raises an interrupt"),
+    (SERIAL, "flush-told-one-less", "a flush tells one byte less than it threw away"),
+    (SERIAL, "empty-flush-not-told", "a flush that finds no byte is answered as any write"),
+    (SERIAL, "flush-counted-read", "each byte that is thrown away counts as a read of RBR"),
+    (SERIAL, "flush-counted-empty", "a flush counts as a read of RBR that leaves none"),
     (CLOCK, "sum-wraps", "a time that does not fit 32 bits wraps around"),
     (CLOCK, "clear-read-zeroes", "a read of 0x1c writes zeros into the caller's bytes"),
     (CLOCK, "identity-unaligned", "identity bytes answer at multiples of four only"),
@@ -76,7 +92,7 @@ pub const FAULTS: [(Option<Device>, &str, &str); 53] = [
 
 /// The same of a port's size, which vm-superio's has not. Those of the usual size show beside it all the same.
 #[rustfmt::skip]
-pub const SIZE_FAULTS: [(&str, &str); 16] = [
+pub const SIZE_FAULTS: [(&str, &str); 18] = [
     ("64-holds-63", "63 bytes can wait in a port of 64"),
     ("64-holds-65", "65 bytes can wait in a port of 64"),
     ("16-holds-64", "64 bytes can wait in a port of 16"),
@@ -93,6 +109,8 @@ pub const SIZE_FAULTS: [(&str, &str); 16] = [
     ("given-keeps-size", "a state that a line gives has the size that the port had before"),
     ("restore-refuses-65", "a saved port with 65 bytes is refused, whatever its size"),
     ("reached-of-64", "a port with another size than 64 is not said to be reached"),
+    ("flush-told-low-byte", "of the number of bytes thrown away the lower 8 bits are told"),
+    ("flush-forgets-size", "after a flush a port has the usual size"),
 ];
 
 /// Answers a whole list with a fault in it.
@@ -102,6 +120,7 @@ pub fn answers(fault: &str, mut list: Vec<u8>) -> Vec<u8> {
     }
     let mut driver = Driver::new(Account::Ours);
     let mut miscount = Miscount::default();
+    let mut received_stays = false;
     let mut answers = Vec::new();
     for line in asking_lines(&list) {
         if fault == "fresh-forgets-kept" && is_start(line) {
@@ -120,10 +139,19 @@ pub fn answers(fault: &str, mut list: Vec<u8>) -> Vec<u8> {
         answers.extend(match parse(line) {
             Some(asked) if answer != b"?\n" => {
                 let answer = String::from_utf8_lossy(&answer).into_owned();
+                received_stays = match (&asked, &before) {
+                    (Line | State | Room | Counters, _) => received_stays,
+                    (&WriteByte(offset, value), Some(port)) if flushes(offset, value) => {
+                        is_active(RECEIVED_DATA, port)
+                    }
+                    (ReadByte(2), _) => received_stays,
+                    _ => false,
+                };
                 let mut answered = Answered {
                     fault,
                     asked,
                     answer,
+                    received_stays,
                 };
                 miscount.go_on(&answered, &driver, before.as_ref(), &counted);
                 if answered.asked == Counters {
@@ -234,6 +262,11 @@ impl Miscount {
             ("lost-counted-twice", Lost) => *lost += 1,
             ("lost-not-sent", Lost) if counted[1] > 0 => *sent -= 1,
             ("lost-not-believed", Lost) if counted[1] == 0 => *lost -= 1,
+            (fault, &WriteByte(offset, value)) if flushes(offset, value) => match fault {
+                "flush-counted-read" => *fetched += port.buffer.len() as isize,
+                "flush-counted-empty" => *emptied += isize::from(port.waits()),
+                _ => {}
+            },
             _ => {}
         }
     }
@@ -244,6 +277,8 @@ struct Answered<'a> {
     fault: &'a str,
     asked: Operation,
     answer: String,
+    /// Whether received data was active before a flush, behind which this comes.
+    received_stays: bool,
 }
 
 impl Answered<'_> {
@@ -336,6 +371,8 @@ impl Answered<'_> {
             ("fetch-resets", ReadByte(0)) if is_data && is_last => is[IIR] = IIR_NONE,
             ("line-falls-early", Line) if received && !transmits => self.says("line 0"),
             ("line-stays", Line) if before.waits() => self.says("line 1"),
+            ("flush-keeps-line", Line) if self.received_stays => self.says("line 1"),
+            ("flush-keeps-shown", ReadByte(2)) if self.received_stays => self.says("r c4 0"),
             ("refusal-changes", RestoreSerial(state)) if self.answer == "restore full\n" => {
                 is[SCR] = state.registers[SCR];
             }
@@ -345,6 +382,54 @@ impl Answered<'_> {
                 self.says("restore 0 unreached");
             }
             (_, asked) if asked.brings_back() => self.brought_back(&mut after),
+            (_, &WriteByte(2, value)) => return self.flushed(value, before, after),
+            _ => {}
+        }
+        after
+    }
+
+    /// FCR was written.
+    fn flushed(&mut self, value: u8, before: &SerialState, mut after: SerialState) -> SerialState {
+        let thrown_away = before.buffer.len();
+        if !flushes(2, value) {
+            let empties = match self.fault {
+                "flush-by-04" => value & 0x04 != 0,
+                "flush-by-change" => value & 0x01 == 0,
+                _ => false,
+            };
+            if empties {
+                after.buffer.clear();
+                after.registers[LSR] &= !LSR_DATA_READY;
+                self.says(&format!("w -{thrown_away} 0"));
+            }
+            return after;
+        }
+        let is_left_out = match self.fault {
+            "flush-does-nothing" => true,
+            "flush-needs-enable" => value & 0x01 == 0,
+            "flush-not-with-divisor" => before.divisor_is_open(),
+            _ => false,
+        };
+        if is_left_out {
+            self.says("w -- 0");
+            return before.clone();
+        }
+        let (was, is) = (&before.registers, &mut after.registers);
+        match self.fault {
+            "flush-keeps-data-ready" => is[LSR] = was[LSR],
+            "flush-keeps-mark" => is[IIR] = was[IIR],
+            "flush-keeps-byte" => {
+                is[LSR] = was[LSR];
+                after.buffer.extend(before.buffer.last());
+            }
+            "flush-resets" => is[IIR] = IIR_NONE,
+            "flush-raises" => self.raises(1),
+            "flush-told-one-less" if thrown_away > 0 => {
+                self.says(&format!("w -{} 0", thrown_away - 1))
+            }
+            "empty-flush-not-told" if thrown_away == 0 => self.says("w -- 0"),
+            "flush-told-low-byte" => self.says(&format!("w -{} 0", thrown_away % 0x100)),
+            "flush-forgets-size" => after.size = SerialState::SIZE,
             _ => {}
         }
         after

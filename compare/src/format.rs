@@ -1,6 +1,6 @@
 //! The replay format: a line of a list and the operation it asks for, and how lines are written.
 
-use crate::devices::{ClockState, SerialState};
+use crate::devices::{ClockState, SerialState, Written};
 
 /// A line longer than this many bytes, its ending not counted, is no operation.
 pub const LONGEST_LINE: usize = 8192;
@@ -117,6 +117,7 @@ pub fn parse(line: &[u8]) -> Option<Operation> {
                 digits => some_bytes(digits)?,
             },
             size: SerialState::SIZE,
+            fcr: 0,
         }),
         _ => return None,
     };
@@ -200,6 +201,15 @@ impl Words {
         }
     }
 
+    /// What a write did, as its answer tells it.
+    pub fn written(self, written: Written) -> Self {
+        match written {
+            Written::Quietly => self.word("--"),
+            Written::Sent(byte) => self.hex(&[byte]),
+            Written::Flushed(count) => self.word(&format!("-{count}")),
+        }
+    }
+
     pub fn hex(self, bytes: &[u8]) -> Self {
         const DIGITS: &[u8; 16] = b"0123456789abcdef";
         let mut words = self.word("");
@@ -275,6 +285,7 @@ mod tests {
             registers: [1, 2, 3, 4, 5, 6, 7, 8, 9],
             buffer: vec![0x0a, 0x0b],
             size: SerialState::SIZE,
+            fcr: 0,
         };
         let line = b"restore 01 02 03 04 05 06 07 08 09 0a0b";
         let written = Words::start("restore").registers(&port).waiting(&port);

@@ -1,17 +1,19 @@
 //! The rows: where vm-superio's serial port and ours answer differently, and nowhere else.
 //!
 //! Both run side by side. Their settings, line status and waiting bytes are always the same; only IIR as it is
-//! stored differs, and so what a read of it answers, and how often an interrupt is raised.
+//! stored differs, and so what a read of it answers, and how often an interrupt is raised. Where FCR empties the
+//! receiver of ours vm-superio keeps what waits: there its guest reads it (`Driver::fetching`), and they are the same
+//! again.
 
 use crate::account::ours::is_active;
 use crate::account::serial::KINDS;
 use crate::account::Account;
-use crate::devices::{SerialState, IIR};
+use crate::devices::{flushes, SerialState, IIR};
 use crate::driver::Driver;
 use crate::format::{parse, Operation, Operation::*};
 
 /// How many rows there are.
-pub const ROWS: usize = 16;
+pub const ROWS: usize = 17;
 
 /// The rows that an operation is in, where both ports are so before it.
 #[rustfmt::skip]
@@ -57,6 +59,9 @@ fn rows(asked: &Operation, original: &SerialState, ours: &SerialState) -> Vec<&'
                 ("original-enables-transmitter-again", transmitter_again && !marked_data),
             ]
         }
+        WriteByte(offset, value) => {
+            vec![("original-keeps-fifo", flushes(offset, value) && ours.is_to_empty())]
+        }
         Input(ref bytes) if !bytes.is_empty() && !ours.loops() && room => vec![
             ("original-data-again", data_forgotten),
             ("original-data-quiet", comes_marked),
@@ -75,7 +80,7 @@ pub struct Sides {
 impl Default for Sides {
     fn default() -> Self {
         Sides {
-            original: Driver::new(Account::Original),
+            original: Driver::fetching(Account::Original),
             ours: Driver::new(Account::Ours),
         }
     }
@@ -105,6 +110,10 @@ impl Sides {
         let differing = differing_words(answers);
         let (is_right, place) = match asked {
             Some(Line) => (answers == accounts, "the line"),
+            // How many bytes were thrown away, which the original does not tell, also where it was none.
+            Some(WriteByte(offset, value)) if flushes(offset, value) => {
+                (answers == accounts, "a flush")
+            }
             Some(State | Save) => (differing.iter().all(|&place| place == 4), "a state"),
             Some(asked) if asked.brings_back() => {
                 (differing == differing_words(accounts), "a restore")

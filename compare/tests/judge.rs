@@ -75,7 +75,7 @@ fn is_found_in(list: &[u8], fault: &str) {
 
 #[test]
 fn a_random_list_finds_every_planted_fault() {
-    let list = random::list(&Options::default(), 40_000, 1);
+    let list = random::list(&Options::default(), 80_000, 1);
     assert!(difference("account", "account", &list).is_none());
     for (_, fault, _) in FAULTS {
         is_found_in(&list, fault);
@@ -105,7 +105,7 @@ fn lists_with_ports_of_all_sizes_find_every_planted_fault_of_a_size() {
         sizes: true,
         ..Options::default()
     };
-    let random = random::list(&options, 40_000, 1);
+    let random = random::list(&options, 80_000, 1);
     assert!(difference("account", "account", &random).is_none());
     let all = sizes::list(&Options::default());
     for (fault, _) in SIZE_FAULTS {
@@ -117,7 +117,7 @@ fn lists_with_ports_of_all_sizes_find_every_planted_fault_of_a_size() {
 #[test]
 fn beside_the_original_a_fault_is_a_difference_in_no_row_or_none_in_a_row() {
     let both_kinds = b"serial\nw 01 03\nb 61\nr 02\n";
-    for same in ["account", "account --original"] {
+    for same in ["account", "account --original --fetches"] {
         let shown = found(same, same, true, both_kinds).unwrap().shown;
         assert!(
             shown.ends_with("(alike in original-two-kinds)\n"),
@@ -126,26 +126,39 @@ fn beside_the_original_a_fault_is_a_difference_in_no_row_or_none_in_a_row() {
     }
     let asked = b"serial\nr 00\ncounters\n";
     let miscounted = "faulty empty-read-not-counted";
-    let shown = found("account --original", miscounted, true, asked)
-        .unwrap()
-        .shown;
+    let original = "account --original --fetches";
+    let shown = found(original, miscounted, true, asked).unwrap().shown;
     assert!(shown.ends_with("(different in no row)\n"), "{shown}");
-    let list = random::list(&Options::default(), 40_000, 1);
-    let beside = |right: &str| found("account --original", right, true, &list);
+    let list = random::list(&Options::default(), 80_000, 1);
+    let beside = |right: &str| found(original, right, true, &list);
     assert!(beside("account").is_none());
     for (_, fault, _) in FAULTS {
-        // Whether a port could have been reached the original does not tell.
-        let is_told = !["reached-without-byte", "reached-disabled"].contains(&fault);
+        // Whether a port could have been reached the original does not tell, and its IIR is stored by ways of its own.
+        let untold = [
+            "reached-without-byte",
+            "reached-disabled",
+            "flush-keeps-mark",
+        ];
         let is_found = beside(&format!("faulty {fault}")).is_some();
-        assert_eq!(is_found, is_told, "{fault}");
+        assert_eq!(is_found, !untold.contains(&fault), "{fault}");
     }
-    // It is never asked for a size, so that only the usual one can be wrong.
+    // It is never asked for a size, so that only the usual one can be wrong; or a line that is nearly `serial`.
     assert!(!asking_lines(&list).any(|line| matches!(parse(line), Some(Operation::StartOf(_)))));
     for (fault, _) in SIZE_FAULTS {
-        let is_usual = ["64-holds-63", "64-holds-65"].contains(&fault);
+        let shows = ["64-holds-63", "64-holds-65", "refusal-makes"].contains(&fault);
         let is_found = beside(&format!("faulty {fault}")).is_some();
-        assert_eq!(is_found, is_usual, "{fault}");
+        assert_eq!(is_found, shows, "{fault}");
     }
+}
+
+/// Where vm-superio's guest does not read what ours throws away, the two differ from there on.
+#[test]
+fn without_its_reads_the_original_keeps_what_ours_throws_away() {
+    let flushed = b"serial\nb 6162\nw 02 07\nr 05\n";
+    let beside = |original: &str| found(original, "account", true, flushed);
+    assert!(beside("account --original --fetches").is_none());
+    let shown = beside("account --original").unwrap().shown;
+    assert!(shown.ends_with("(different in no row)\n"), "{shown}");
 }
 
 /// How often a list's lines are in these rows and no others. Answers may stand beside them.

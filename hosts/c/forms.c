@@ -1,8 +1,8 @@
 /*
  * Forms of states: true ones, damaged ones, and bytes of any kind. Each is read by the library and by a reader of our
  * own: both must give the same state or the same reason, and where the library refuses, what it was to write must be
- * untouched. A form and what is read from it lie in heap blocks of exactly their sizes, for valgrind, and then against
- * pages that may not be touched.
+ * untouched. What was read is written again, in the current version. A form and what is read from it lie in heap blocks
+ * of exactly their sizes, for valgrind, and then against pages that may not be touched.
  *
  *   forms [COUNT [SEED]]
  *
@@ -12,15 +12,24 @@
 #include "forms.h"
 #include <errno.h>
 
-#define LONGEST 100
+#define LONGEST 1100
+#define FEW 100
 #define REASONS 7
 #define LEAST_COUNT 1000
 
 /* A saved device; of a port more bytes may wait than there is room for. */
 struct state {
     struct serialpost_clock saved; /* the larger of the two devices' */
-    uint8_t waiting[WAITING];
+    uint8_t waiting[LONGEST];
 };
+
+/* The first bytes are any; the others go on from them, to be quick. */
+static void many_bytes(uint8_t *memory, size_t size)
+{
+    any_bytes(memory, size < FEW ? size : FEW);
+    for (size_t i = FEW; i < size; i++)
+        memory[i] = (uint8_t)(memory[i - FEW] + i / FEW);
+}
 
 /* ---- Where a form and a saved device lie */
 
@@ -66,8 +75,8 @@ static uint32_t read_in(struct place place, const struct device *device, const u
     struct state own;
     memcpy(place.form, form, length);
     any_bytes(place.saved, device->saved_size);
-    any_bytes(place.waiting, LONGEST);
-    memset(place.waiting + LONGEST, (int)any(), WAITING - LONGEST);
+    any_bytes(place.waiting, FEW);
+    memset(place.waiting + FEW, (int)any(), WAITING - FEW);
     memcpy(&own.saved, place.saved, device->saved_size);
     memcpy(own.waiting, place.waiting, WAITING);
 
@@ -79,12 +88,13 @@ static uint32_t read_in(struct place place, const struct device *device, const u
     return answer;
 }
 
-/* What was read is written again: the same bytes. */
+/* What was read is written again: the same bytes, or the same state in the current version. */
 static void write_again(struct place place, const struct device *device, const uint8_t *form, size_t length, uint32_t count)
 {
-    uint8_t again[LONGEST];
+    uint8_t again[LONGEST], as_written[LONGEST + 2];
+    length = device->as_written(form, length, as_written);
     uint32_t written = device->write(place.saved, place.waiting, count, again, sizeof again);
-    EXPECT(written == length && memcmp(again, form, length) == 0);
+    EXPECT(written == length && memcmp(again, as_written, length) == 0);
 }
 
 static uint32_t read_everywhere(const struct device *device, const uint8_t *form, size_t length)
@@ -101,17 +111,27 @@ static uint32_t read_everywhere(const struct device *device, const uint8_t *form
 
 /* ---- Writing */
 
+/* Registers that tell a size: of 64 bytes, 16, 128 and 1,024, or any other. */
+static uint8_t any_size_register(void)
+{
+    static const uint8_t registers[] = { 0, 244, 16, 240 };
+    return once_in(2) ? 0 : once_in(4) ? (uint8_t)any() : registers[any() % 4];
+}
+
 /* Any state. What is spare is mostly 0; a clock's offset often lies at an end of 33 or of 64 signed bits. */
 static struct state any_state(const struct device *device)
 {
     struct state state;
     any_bytes(&state.saved, sizeof state.saved);
-    any_bytes(state.waiting, LONGEST);
+    many_bytes(state.waiting, LONGEST);
     uint8_t *saved = (uint8_t *)&state.saved;
-    size_t spare = device == &a_clock ? offsetof(struct serialpost_clock, spare) : 9;
-    memset(saved + spare, 0, device->saved_size - spare);
+    size_t spare = device == &a_clock ? offsetof(struct serialpost_clock, spare) : 10;
+    size_t spares = device == &a_clock ? sizeof state.saved.spare : 5;
+    memset(saved + spare, 0, spares);
     if (once_in(8))
-        saved[spare + any() % (device->saved_size - spare)] = (uint8_t)(1 << any() % 8);
+        saved[spare + any() % spares] = (uint8_t)(1 << any() % 8);
+    if (device == &serial_port)
+        saved[15] = any_size_register();
     if (device == &a_clock && !once_in(8)) {
         static const uint32_t low[] = { 0, UINT32_MAX };
         static const uint32_t high[] = { 0, UINT32_MAX, 1, UINT32_MAX - 1, 0x7fffffff, 0x80000000 };
@@ -130,7 +150,7 @@ static void write_in(struct place place, const struct device *device, const stru
     uint8_t expected[LONGEST];
     memcpy(place.saved, &state->saved, device->saved_size);
     memcpy(place.waiting, state->waiting, count);
-    any_bytes(place.form, room);
+    many_bytes(place.form, room);
     memcpy(expected, place.form, room);
     if (answer <= room)
         memcpy(expected, form, answer);
@@ -138,11 +158,18 @@ static void write_in(struct place place, const struct device *device, const stru
     EXPECT(memcmp(place.form, expected, room) == 0);
 }
 
+/* How many bytes wait in a port: a few, or about as many as its size. */
+static size_t any_count(const struct state *state)
+{
+    uint32_t size = size_by(((const uint8_t *)&state->saved)[15]);
+    return once_in(2) ? any() % 20 : size - 2 + any() % 4;
+}
+
 /* A form of any state, by the library. Answers its length, or the reason why there is none. */
 static uint32_t true_form(const struct device *device, uint8_t form[LONGEST])
 {
     struct state state = any_state(device);
-    size_t count = device == &serial_port ? any() % 68 : 0, room = any() % LONGEST;
+    size_t count = device == &serial_port ? any_count(&state) : 0, room = any() % (once_in(4) ? LONGEST : FEW);
     uint32_t answer = device->write(&state.saved, state.waiting, count, form, LONGEST);
     EXPECT(answer == device->own_size(&state.saved, count));
 
@@ -158,13 +185,13 @@ static uint32_t true_form(const struct device *device, uint8_t form[LONGEST])
 
 static size_t any_bytes_at_all(uint8_t form[LONGEST])
 {
-    size_t length = any() % (once_in(4) ? 4 : LONGEST);
+    size_t length = any() % (once_in(4) ? 4 : once_in(8) ? LONGEST : FEW);
     if (!once_in(8)) {
-        form[0] = (uint8_t)(any() % 4);
+        form[0] = (uint8_t)(any() % 5);
         form[1] = 0;
     }
     if (once_in(2))
-        form[12] = 0;
+        form[form[0] == 2 ? 12 : 14] = 0;
     return length;
 }
 
@@ -176,10 +203,29 @@ static size_t first_version(uint8_t form[LONGEST])
     return 11;
 }
 
-/* Cuts a form, lengthens it, changes one of its bytes, or a bit of how many bytes wait, or of a clock's version. */
+/* Version 2, which is read and no longer written: it has neither FCR nor a size. Now and then one byte too many waits. */
+static size_t second_version(uint8_t form[LONGEST])
+{
+    size_t count = any() % 66;
+    form[0] = 2;
+    form[1] = 0;
+    form[11] = (uint8_t)count;
+    form[12] = 0;
+    return 13 + count;
+}
+
+static uint32_t some_form(const struct device *device, uint8_t form[LONGEST])
+{
+    if (device == &a_clock || !once_in(2))
+        return true_form(device, form);
+    return (uint32_t)(once_in(2) ? first_version(form) : second_version(form));
+}
+
+/* Cuts a form, lengthens it, changes one of its bytes, or a bit of how many bytes wait, or of the size, or of a clock's
+ * version. */
 static size_t damaged(const struct device *device, uint8_t form[LONGEST], size_t length)
 {
-    size_t limited = device == &serial_port && length > 12 ? 11 : 0;
+    size_t limited = device == &serial_port && length > 14 ? 11 + any() % 3 : 0;
     switch (any() % 4) {
     case 0:
         return any() % (length + 1);
@@ -197,10 +243,10 @@ static size_t damaged(const struct device *device, uint8_t form[LONGEST], size_t
 /* `unwritten` counts the states that have no form, by reason. */
 static size_t any_form(const struct device *device, uint8_t form[LONGEST], unsigned long unwritten[REASONS])
 {
-    any_bytes(form, LONGEST);
+    many_bytes(form, LONGEST);
     if (once_in(4))
         return any_bytes_at_all(form);
-    uint32_t length = device == &serial_port && once_in(4) ? (uint32_t)first_version(form) : true_form(device, form);
+    uint32_t length = some_form(device, form);
     if (is_refused(length)) {
         unwritten[length - 0x10000]++;
         return any_bytes_at_all(form);

@@ -2,16 +2,16 @@
  * Reads forms, a line for each, and answers each line with what the library makes of it:
  *
  *   DEVICE FORM [=> ..]     the form in hex, or - for no bytes
- *   DEVICE FORM => ANSWER   the state in the words of docs/REPLAY.md, or the reason
+ *   DEVICE FORM => ANSWER   the state in the words of docs/REPLAY.md, of a port FCR and the size behind it; or the reason
  *
  * An empty line and a line that begins with # stay as they are, so that a file of recorded forms must come out as it
- * is. Our own reader must give the same, and a state that was read is written again as the same bytes. Any other line
- * ends the program with the exit status 2.
+ * is. Our own reader must give the same, and a state that was read is written again as the same bytes, or where its form
+ * has an older version, as the same state in the current one. Any other line ends the program with the exit status 2.
  */
 #include "expect.h"
 #include "forms.h"
 
-#define LONGEST 200
+#define LONGEST 1100
 
 static const char *const reasons[] = { NULL, "too short", "trailing", "version", "too many" };
 
@@ -59,7 +59,7 @@ static void print_port(const uint8_t *saved, const uint8_t *waiting, uint32_t co
         printf(" %02x", saved[order[i]]);
     printf(" %u ", (unsigned)count);
     print_hex(waiting, count);
-    printf("\n");
+    printf(" %02x %u\n", saved[9], (unsigned)size_by(saved[15]));
 }
 
 static void print_clock(const struct serialpost_clock *clock)
@@ -70,7 +70,7 @@ static void print_clock(const struct serialpost_clock *clock)
 
 static void answer(const struct device *device, const char *digits)
 {
-    uint8_t form[LONGEST], again[LONGEST], waiting[WAITING], own_waiting[WAITING] = { 0 };
+    uint8_t form[LONGEST], again[LONGEST], as_written[LONGEST], waiting[WAITING], own_waiting[WAITING] = { 0 };
     struct serialpost_clock saved, own_saved; /* the larger of the two devices' */
     size_t length = bytes_of(digits, form);
     printf("%s ", device->name);
@@ -86,7 +86,8 @@ static void answer(const struct device *device, const char *digits)
         return;
     }
     EXPECT(memcmp(&saved, &own_saved, device->saved_size) == 0 && memcmp(waiting, own_waiting, WAITING) == 0);
-    EXPECT(device->write(&saved, waiting, read, again, LONGEST) == length && memcmp(again, form, length) == 0);
+    length = device->as_written(form, length, as_written);
+    EXPECT(device->write(&saved, waiting, read, again, LONGEST) == length && memcmp(again, as_written, length) == 0);
     if (device == &serial_port)
         print_port((const uint8_t *)&saved, waiting, read);
     else
@@ -100,7 +101,7 @@ static bool ends(const char *part)
 
 int main(void)
 {
-    char line[1024];
+    char line[8192];
     for (lines = 1; fgets(line, sizeof line, stdin) != NULL; lines++) {
         if (line[0] == '\n' || line[0] == '#') {
             fputs(line, stdout);

@@ -127,20 +127,66 @@ static void more_bytes_than_the_saved_size_are_refused(uint32_t size)
     }
 }
 
-/* Where more bytes wait than the form has room for that is the reason. */
-static void only_a_port_of_the_usual_size_has_a_form(uint32_t size)
+/* All of them, and then none. */
+static void fcr_throws_away_as_many_as_wait(uint32_t size)
 {
-    struct serialpost_serial port = port_of(size), full = full_port(size);
-    struct serialpost_serial_saved empty = saved_from(&port), filled = saved_from(&full);
-    uint8_t form[SERIALPOST_SERIAL_FORM_MOST];
-    bool usual = size == SERIALPOST_SERIAL_USUAL;
-    struct serialpost_encoded answer = serialpost_serial_encode(&empty, form, sizeof form);
-    EXPECT(answer.length == (usual ? 13u : 0) && answer.reason == (usual ? SERIALPOST_NOT_REFUSED : SERIALPOST_SPARE));
-    answer = serialpost_serial_encode(&filled, form, sizeof form);
-    EXPECT(answer.reason == (usual ? SERIALPOST_NOT_REFUSED : size < 64 ? SERIALPOST_SPARE : SERIALPOST_TOO_MANY));
-    filled.count = UINT32_MAX;
-    answer = serialpost_serial_encode(&filled, form, sizeof form);
-    EXPECT(answer.length == 0 && answer.reason == SERIALPOST_TOO_MANY);
+    const uint32_t discarded[] = { size, 0 };
+    struct serialpost_serial port = full_port(size);
+    for (size_t i = 0; i < COUNT(discarded); i++) {
+        struct serialpost_written answer = serialpost_serial_write(&port, SERIALPOST_FCR, 0x07);
+        EXPECT(answer.flushed && answer.discarded == discarded[i] && !answer.sends && answer.raises == 0);
+        EXPECT(serialpost_serial_room(&port) == size && serialpost_serial_size(&port) == size);
+    }
+    EXPECT(takes(&port, typed, size + 1, size));
+    expect_read(&port, typed, size);
+}
+
+/* A form of an empty port and of a full one: written, read, restored into the memory of a port of another size. */
+static void a_port_is_kept_as_bytes(uint32_t size)
+{
+    struct serialpost_serial ports[] = { port_of(size), full_port(size) };
+    for (size_t i = 0; i < COUNT(ports); i++) {
+        serialpost_serial_write(&ports[i], SERIALPOST_FCR, 0xc9);
+        struct serialpost_serial_saved saved = saved_from(&ports[i]), again = saved_from(&ports[i]);
+        uint8_t form[SERIALPOST_SERIAL_FORM_MOST];
+        memset(form, 0xa5, sizeof form);
+        struct serialpost_encoded answer = serialpost_serial_encode(&saved, form, sizeof form);
+        EXPECT(answer.length == 15 + saved.count && answer.reason == SERIALPOST_NOT_REFUSED);
+        EXPECT(form[0] == 3 && form[11] == 0xc9 && form[12] == saved.regs[SIZE] && form[13] + 256u * form[14] == saved.count);
+        EXPECT(answer.length == sizeof form || form[answer.length] == 0xa5);
+
+        memset(again.regs, 0x5a, sizeof again.regs);
+        memset(again.waiting, 0x5a, saved.count);
+        EXPECT(serialpost_serial_decode(form, answer.length, &again) == SERIALPOST_NOT_REFUSED);
+        EXPECT(memcmp(&again, &saved, sizeof saved) == 0);
+        struct serialpost_serial there = port_of(size == 16 ? 1024 : 16);
+        EXPECT(serialpost_serial_restore(&there, &again).reachable && serialpost_serial_size(&there) == size);
+        EXPECT(serialpost_serial_room(&there) == size - saved.count);
+        expect_read(&there, typed, saved.count);
+
+        EXPECT(serialpost_serial_decode(form, answer.length - 1, &again) == SERIALPOST_TOO_SHORT);
+        EXPECT(serialpost_serial_decode(form, answer.length + 1, &again) == SERIALPOST_TRAILING);
+        EXPECT(memcmp(&again, &saved, sizeof saved) == 0);
+    }
+}
+
+/* One byte more than the size, in what is to be written and in what is read; and counts beyond all. */
+static void more_bytes_than_its_size_have_no_form(uint32_t size)
+{
+    struct serialpost_serial port = full_port(size);
+    struct serialpost_serial_saved saved = saved_from(&port);
+    uint8_t form[SERIALPOST_SERIAL_FORM_MOST + 1];
+    uint32_t length = serialpost_serial_encode(&saved, form, sizeof form).length;
+    form[13] = (uint8_t)(size + 1);
+    form[14] = (uint8_t)((size + 1) >> 8);
+    for (uint32_t more = 0; more < 2; more++)
+        EXPECT(serialpost_serial_decode(form, length + more, &saved) == SERIALPOST_TOO_MANY && saved.count == size);
+    const uint32_t counts[] = { size + 1, 1025, 0x10000 + size, UINT32_MAX };
+    for (size_t i = 0; i < COUNT(counts); i++) {
+        saved.count = counts[i];
+        struct serialpost_encoded answer = serialpost_serial_encode(&saved, form, sizeof form);
+        EXPECT(answer.length == 0 && answer.reason == SERIALPOST_TOO_MANY);
+    }
 }
 
 /* ---- Other numbers, and other memory */
@@ -190,6 +236,10 @@ static void a_size_that_no_port_is_made_with_is_told(void)
         struct serialpost_restored answer = serialpost_serial_restore(&port, &saved);
         EXPECT(!answer.refused && serialpost_serial_size(&port) == (63 + 4 * byte) % 1024 + 1);
         reachable += answer.reachable;
+        uint8_t form[SERIALPOST_SERIAL_FORM_MOST];
+        struct serialpost_serial_saved again;
+        EXPECT(serialpost_serial_encode(&saved, form, sizeof form).length == 15);
+        EXPECT(serialpost_serial_decode(form, 15, &again) == SERIALPOST_NOT_REFUSED && again.regs[SIZE] == byte);
     }
     EXPECT(reachable == COUNT(sizes));
 }
@@ -205,7 +255,9 @@ int main(void)
         in_the_loop_as_many_wait(sizes[i]);
         a_size_is_saved_and_restored(sizes[i]);
         more_bytes_than_the_saved_size_are_refused(sizes[i]);
-        only_a_port_of_the_usual_size_has_a_form(sizes[i]);
+        fcr_throws_away_as_many_as_wait(sizes[i]);
+        a_port_is_kept_as_bytes(sizes[i]);
+        more_bytes_than_its_size_have_no_form(sizes[i]);
     }
     no_other_number_makes_a_port();
     memory_from_before_is_a_port_of_64();

@@ -54,8 +54,8 @@ static void a_fresh_port(void)
     write_at(&port, SERIALPOST_LCR, 0x83);
     EXPECT(read_at(&port, 0) == 0x0c && read_at(&port, 1) == 0x00);
     EXPECT(serialpost_serial_room(&port) == SERIALPOST_SERIAL_USUAL);
-    static const uint8_t no_spare[6] = { 0 };
-    EXPECT(memcmp(port.regs + 9, no_spare, sizeof no_spare) == 0 && port.pos[2] == 0 && port.pos[3] == 0);
+    static const uint8_t nothing[6] = { 0 }; /* is remembered of FCR, or spare */
+    EXPECT(memcmp(port.regs + 9, nothing, sizeof nothing) == 0 && port.pos[2] == 0 && port.pos[3] == 0);
     EXPECT(serialpost_serial_size(&port) == SERIALPOST_SERIAL_USUAL && port.regs[15] == 0);
 }
 
@@ -138,12 +138,96 @@ static void the_loop_returns_what_is_written(void)
     EXPECT(read_at(&port, SERIALPOST_MSR) == 0x30);
 }
 
+/* ---- FCR */
+
+#define FCR 9 /* where it is remembered */
+#define FCR_KEPT 0xc9
+
+/* Answers how many bytes a write of FCR threw away. */
+static uint32_t flushes(struct serialpost_serial *port, uint8_t value)
+{
+    struct serialpost_written answer = serialpost_serial_write(port, SERIALPOST_FCR, value);
+    EXPECT(answer.flushed && !answer.sends && answer.byte == 0 && !answer.looped && !answer.dropped && answer.raises == 0);
+    EXPECT(answer.word == (SERIALPOST_WORD_FLUSHED | answer.discarded));
+    return answer.discarded;
+}
+
+/* A phrase was typed before the guest listened: it is thrown away, and what is typed then is read. */
+static void fcr_empties_the_buffer(void)
+{
+    for (unsigned value = 0; value < 256; value++) {
+        if (!(value & 0x02))
+            continue;
+        struct serialpost_serial port = fresh_port();
+        write_at(&port, SERIALPOST_IER, 0x01);
+        EXPECT(type_in(&port, "hello", 5).raises == 1 && serialpost_serial_room(&port) == SERIALPOST_SERIAL_USUAL - 5);
+        EXPECT(flushes(&port, (uint8_t)value) == 5);
+        EXPECT(!serialpost_serial_line(&port) && serialpost_serial_room(&port) == SERIALPOST_SERIAL_USUAL);
+        EXPECT(read_at(&port, SERIALPOST_LSR) == 0x60 && read_at(&port, SERIALPOST_IIR) == 0xc1);
+        EXPECT(!serialpost_serial_read(&port, SERIALPOST_RBR).delivered);
+        EXPECT(type_in(&port, "ok", 2).raises == 1 && serialpost_serial_line(&port));
+        EXPECT(read_at(&port, SERIALPOST_RBR) == 'o' && read_at(&port, SERIALPOST_RBR) == 'k');
+    }
+}
+
+static void an_empty_buffer_is_emptied_and_nothing_thrown_away(void)
+{
+    struct serialpost_serial port = fresh_port(), before = port;
+    EXPECT(flushes(&port, 0x02) == 0 && memcmp(&port, &before, sizeof port) == 0);
+    EXPECT(flushes(&port, 0x07) == 0 && port.regs[FCR] == 0x01);
+}
+
+static void the_transmitters_interrupt_stays(void)
+{
+    struct serialpost_serial port = fresh_port();
+    type_in(&port, "a", 1);
+    EXPECT(write_at(&port, SERIALPOST_IER, 0x03) == 2);
+    EXPECT(flushes(&port, 0x07) == 1 && serialpost_serial_line(&port));
+    EXPECT(read_at(&port, SERIALPOST_IIR) == 0xc2 && !serialpost_serial_line(&port));
+}
+
+/* While the divisor is open, and in loopback: FCR lies where it lies. */
+static void fcr_empties_the_buffer_always(void)
+{
+    struct serialpost_serial port = fresh_port();
+    type_in(&port, "ab", 2);
+    write_at(&port, SERIALPOST_LCR, 0x83);
+    EXPECT(flushes(&port, 0x03) == 2 && read_at(&port, 0) == 0x0c);
+    write_at(&port, SERIALPOST_LCR, 0x03);
+    write_at(&port, SERIALPOST_MCR, 0x10);
+    for (int i = 0; i < SERIALPOST_SERIAL_USUAL; i++)
+        EXPECT(serialpost_serial_write(&port, SERIALPOST_THR, 'z').looped);
+    EXPECT(flushes(&port, 0x02) == SERIALPOST_SERIAL_USUAL);
+    EXPECT(serialpost_serial_write(&port, SERIALPOST_THR, 'y').looped && read_at(&port, SERIALPOST_RBR) == 'y');
+}
+
+/* What is remembered changes no answer: the port is the same but for it. */
+static void the_other_bits_are_remembered_alone(void)
+{
+    for (unsigned value = 0; value < 256; value++) {
+        struct serialpost_serial port = fresh_port(), other;
+        write_at(&port, SERIALPOST_IER, 0x03);
+        type_in(&port, "abc", 3);
+        if (value & 0x02)
+            flushes(&port, 0x02);
+        other = port;
+        struct serialpost_written answer = serialpost_serial_write(&port, SERIALPOST_FCR, (uint8_t)value);
+        EXPECT(answer.word == (value & 0x02 ? SERIALPOST_WORD_FLUSHED : 0) && answer.discarded == 0);
+        EXPECT(port.regs[FCR] == (value & FCR_KEPT));
+        other.regs[FCR] = port.regs[FCR];
+        EXPECT(memcmp(&port, &other, sizeof port) == 0);
+        other.regs[FCR] = 0;
+        for (int offset = 7; offset >= 0; offset--)
+            EXPECT(serialpost_serial_read(&port, (uint8_t)offset).word == serialpost_serial_read(&other, (uint8_t)offset).word);
+    }
+}
+
 static void a_run_is_the_calls_one_after_another(void)
 {
     struct serialpost_serial port = fresh_port(), same = port;
-    static const uint8_t ops[] = { 1, 1, 1, 2, 3, 0, 3, 0, 0, 0, 5, 0, 0, 0, 0, 1, 0, 'x' };
-    uint32_t answers[6];
-    EXPECT(serialpost_serial_play(&port, ops, sizeof ops, (const uint8_t *)"abc", 3, answers, 6));
+    static const uint8_t ops[] = { 1, 1, 1, 2, 3, 0, 3, 0, 0, 0, 5, 0, 0, 0, 0, 1, 0, 'x', 1, 2, 7 };
+    uint32_t answers[7];
+    EXPECT(serialpost_serial_play(&port, ops, sizeof ops, (const uint8_t *)"abc", 3, answers, 7));
     EXPECT(serialpost_written_of(answers[0]).raises == write_at(&same, SERIALPOST_IER, 1));
     struct serialpost_input typed = serialpost_input_of(answers[1]), same_typed = type_in(&same, "abc", 3);
     EXPECT(typed.taken == same_typed.taken && typed.full == same_typed.full && typed.raises == same_typed.raises);
@@ -152,8 +236,9 @@ static void a_run_is_the_calls_one_after_another(void)
     EXPECT(serialpost_read_of(answers[4]).reply == read_at(&same, SERIALPOST_RBR));
     struct serialpost_written sent = serialpost_written_of(answers[5]);
     EXPECT(sent.sends && sent.byte == 'x' && sends(&same, 'x', sent.raises));
+    EXPECT(serialpost_written_of(answers[6]).discarded == 2 && flushes(&same, 7) == 2);
     EXPECT(memcmp(&port, &same, sizeof port) == 0);
-    EXPECT(!serialpost_serial_play(&port, ops, sizeof ops - 1, (const uint8_t *)"abc", 3, answers, 6));
+    EXPECT(!serialpost_serial_play(&port, ops, sizeof ops - 1, (const uint8_t *)"abc", 3, answers, 7));
 }
 
 /* ---- A port saved and restored */
@@ -223,6 +308,10 @@ static void a_state_that_no_run_comes_to_is_restored_and_told(void)
     saved.regs[14] = 1;
     EXPECT(restores(&port, &saved, false) && port.regs[14] == 1);
     saved.regs[14] = 0;
+    saved.regs[FCR] = 0x02; /* no run leaves a bit that is not remembered */
+    EXPECT(restores(&port, &saved, false) && port.regs[FCR] == 0x02);
+    saved.regs[FCR] = FCR_KEPT;
+    EXPECT(restores(&port, &saved, true) && port.regs[FCR] == FCR_KEPT);
     saved.count = 64;
     EXPECT(restores(&port, &saved, false) && read_at(&port, SERIALPOST_LSR) == 0x60);
     EXPECT(serialpost_serial_room(&port) == 0 && read_at(&port, SERIALPOST_RBR) == 0xa5);
@@ -252,12 +341,13 @@ static void a_65th_byte_is_refused_and_nothing_changes(void)
 static void a_port_is_kept_as_bytes(void)
 {
     struct serialpost_serial port = fresh_port();
+    EXPECT(flushes(&port, 0x87) == 0);
     write_at(&port, SERIALPOST_IER, 0x01);
     type_in(&port, "ls\n", 3);
     struct serialpost_serial_saved saved = saved_from(&port), again;
     uint8_t form[SERIALPOST_SERIAL_FORM_MOST];
     struct serialpost_encoded encoded = serialpost_serial_encode(&saved, form, sizeof form);
-    static const uint8_t expected[] = { 2, 0, 0x0c, 1, 4, 3, 8, 0x61, 0xb0, 0, 0, 3, 0, 'l', 's', '\n' };
+    static const uint8_t expected[] = { 3, 0, 0x0c, 1, 4, 3, 8, 0x61, 0xb0, 0, 0, 0x81, 0, 3, 0, 'l', 's', '\n' };
     EXPECT(encoded.reason == SERIALPOST_NOT_REFUSED && encoded.length == sizeof expected);
     EXPECT(memcmp(form, expected, sizeof expected) == 0);
 
@@ -266,10 +356,43 @@ static void a_port_is_kept_as_bytes(void)
     EXPECT(serialpost_serial_decode(form, encoded.length - 1, &again) == SERIALPOST_TOO_SHORT && again.count == 3);
 
     saved.count = SERIALPOST_SERIAL_USUAL;
-    EXPECT(serialpost_serial_encode(&saved, form, sizeof form).length == sizeof form);
-    saved.regs[9] = 1;
-    encoded = serialpost_serial_encode(&saved, form, sizeof form);
-    EXPECT(encoded.length == 0 && encoded.reason == SERIALPOST_SPARE);
+    EXPECT(serialpost_serial_encode(&saved, form, sizeof form).length == 15 + SERIALPOST_SERIAL_USUAL);
+    for (int spare = 10; spare < 15; spare++) {
+        saved.regs[spare] = 1;
+        encoded = serialpost_serial_encode(&saved, form, sizeof form);
+        EXPECT(encoded.length == 0 && encoded.reason == SERIALPOST_SPARE);
+        saved.regs[spare] = 0;
+    }
+}
+
+/* As it was written before there were sizes: it is a port of 64, of whose FCR nothing is remembered. */
+static void a_form_of_version_2_is_read(void)
+{
+    static const uint8_t form[] = { 2, 0, 0x0c, 1, 4, 3, 8, 0x61, 0xb0, 0, 0, 3, 0, 'l', 's', '\n' };
+    static const uint8_t now[] = { 3, 0, 0x0c, 1, 4, 3, 8, 0x61, 0xb0, 0, 0, 0, 0, 3, 0, 'l', 's', '\n' };
+    struct serialpost_serial port = fresh_port();
+    struct serialpost_serial_saved saved, again;
+    memset(&saved, 0xa5, sizeof saved);
+    EXPECT(serialpost_serial_decode(form, sizeof form, &saved) == SERIALPOST_NOT_REFUSED && saved.count == 3);
+    EXPECT(serialpost_serial_restore(&port, &saved).reachable && port.regs[FCR] == 0);
+    EXPECT(serialpost_serial_size(&port) == 64 && serialpost_serial_room(&port) == 61);
+    uint8_t written[SERIALPOST_SERIAL_FORM_MOST];
+    EXPECT(serialpost_serial_encode(&saved, written, sizeof written).length == sizeof now);
+    EXPECT(memcmp(written, now, sizeof now) == 0);
+    EXPECT(serialpost_serial_decode(now, sizeof now, &again) == SERIALPOST_NOT_REFUSED && again.count == 3);
+    EXPECT(memcmp(again.regs, saved.regs, sizeof again.regs) == 0 && memcmp(again.waiting, saved.waiting, 3) == 0);
+    for (size_t length = 0; length < sizeof form; length++)
+        EXPECT(serialpost_serial_decode(form, length, &saved) == SERIALPOST_TOO_SHORT && saved.count == 3);
+    uint8_t longer[100] = { 2, 0, 0x0c, 1, 4, 3, 8, 0x61, 0xb0, 0, 0, 64, 0 };
+    EXPECT(serialpost_serial_decode(longer, 77, &saved) == SERIALPOST_NOT_REFUSED && saved.count == 64);
+    EXPECT(serialpost_serial_decode(longer, 78, &saved) == SERIALPOST_TRAILING);
+    longer[11] = 65;
+    EXPECT(serialpost_serial_decode(longer, 78, &saved) == SERIALPOST_TOO_MANY && saved.count == 64);
+    for (uint8_t version = 0; version < 9; version++) {
+        longer[0] = version;
+        bool known = version == 2 || version == 3;
+        EXPECT((serialpost_serial_decode(longer, 78, &saved) == SERIALPOST_UNKNOWN_VERSION) == !known);
+    }
 }
 
 /* ---- The clock */
@@ -482,7 +605,8 @@ static void bytes_sent_and_lost_are_counted(void)
         EXPECT(!looped.sends && looped.looped && !looped.dropped);
     }
     struct serialpost_written dropped = counted_write(&port, &counters, SERIALPOST_THR, 'z');
-    EXPECT(!dropped.sends && !dropped.looped && dropped.dropped);
+    EXPECT(!dropped.sends && !dropped.looped && dropped.dropped && !dropped.flushed && dropped.discarded == 0);
+    EXPECT(counted_write(&port, &counters, SERIALPOST_FCR, 0x07).discarded == SERIALPOST_SERIAL_USUAL);
     EXPECT(port_counts(&counters, 0, 2, 1, 0));
 }
 
@@ -581,12 +705,18 @@ int main(void)
     a_third_byte_holds_the_line_high_and_raises_nothing();
     a_full_port_refuses();
     the_loop_returns_what_is_written();
+    fcr_empties_the_buffer();
+    an_empty_buffer_is_emptied_and_nothing_thrown_away();
+    the_transmitters_interrupt_stays();
+    fcr_empties_the_buffer_always();
+    the_other_bits_are_remembered_alone();
     a_run_is_the_calls_one_after_another();
     a_console_moves_to_another_host();
     what_is_enabled_and_pending_is_raised_again();
     a_state_that_no_run_comes_to_is_restored_and_told();
     a_65th_byte_is_refused_and_nothing_changes();
     a_port_is_kept_as_bytes();
+    a_form_of_version_2_is_read();
     a_clock_runs();
     a_clock_names_its_words();
     a_clock_refuses();

@@ -1,7 +1,8 @@
 //! Drives vm-superio and this crate through the same lists, by the judge's monitor, with the same faults of the host,
 //! and compares what each call returns and its steps in order: what it does to the host, and the callbacks for events.
-//! They differ exactly in the judge's rows: in what a read of IIR answers, and in how often the interrupt is raised.
-//! Counters, which are made of the callbacks, are those of the judge's accounts.
+//! They differ exactly in the judge's rows: in what a read of IIR answers, in how often the interrupt is raised, and where
+//! FCR empties the port. There our bytes are thrown away, and the original's guest reads what waits: after that both are
+//! compared as before. Counters, which are made of the callbacks, are those of the judge's accounts.
 //! Then it sees that it finds faults that are planted in our steps.
 
 #[path = "../../compare/src/original/host.rs"]
@@ -33,13 +34,14 @@ use std::process::ExitCode;
 use std::rc::Rc;
 
 use host::{raises_in, Callback, Faults, Host, Step};
-use judge::account::reached;
+use judge::account::{reached, Account};
+use judge::devices::{SerialState, LCR, LSR};
 use judge::driver::Driver;
 use judge::format::{self, Operation};
 use judge::generate::numbers::Numbers;
 use judge::generate::{exhaustive, random, Options};
 use judge::rows::{Sides, ROWS};
-use planted::Planted;
+use planted::{Left, Planted};
 
 impl Step {
     pub fn name(&self) -> &'static str {
@@ -80,8 +82,8 @@ struct Met {
     unreachable: usize,
 }
 
-/// What calls are to meet.
-const CALLS: [&str; 18] = [
+/// What calls are to meet. `InBufferEmpty` by itself is FCR's.
+const CALLS: [&str; 19] = [
     "full",
     "raise",
     "raise, raise",
@@ -97,6 +99,7 @@ const CALLS: [&str; 18] = [
     "write, flush, TxLostByte, raise, not raised",
     "BufferRead",
     "InBufferEmpty, BufferRead",
+    "InBufferEmpty",
     "InvalidRead",
     "InvalidWrite",
     "",
@@ -162,7 +165,9 @@ struct Pair<'a> {
     ours: Driver<ours::Monitor>,
     sides: Sides,
     /// What the accounts answer, line by line.
-    accounts: Sides,
+    accounts: [Driver<Account>; 2],
+    /// Callbacks of each port that the accounts do not count: those of the writes that empty it.
+    uncounted: [[usize; 4]; 2],
     planted: Option<&'a Planted>,
 }
 
@@ -174,9 +179,28 @@ impl<'a> Pair<'a> {
             ours: Driver::new(ours::Monitor(hosts[1].clone())),
             hosts,
             sides: Sides::default(),
-            accounts: Sides::default(),
+            accounts: [
+                Driver::fetching(Account::Original),
+                Driver::new(Account::Ours),
+            ],
+            uncounted: Default::default(),
             planted,
         }
+    }
+
+    fn ports(&self) -> Option<[SerialState; 2]> {
+        Some([self.original.port()?, self.ours.port()?])
+    }
+
+    /// The callbacks so far, as the ports' counters have them.
+    fn told(&self) -> [Vec<usize>; 2] {
+        [self.original.counters(), self.ours.counters()].map(Option::unwrap_or_default)
+    }
+
+    /// What the accounts answer. They go on by it.
+    fn account(&mut self, line: &[u8]) -> [String; 2] {
+        let answers = self.accounts.each_mut();
+        answers.map(|account| text(account.answer(line)))
     }
 
     /// Has both answer the line under these faults.
@@ -186,6 +210,7 @@ impl<'a> Pair<'a> {
             host.steps.take();
         }
         let answers = [self.original.answer(line), self.answer_of_ours(line)];
+        let answers = self.counted(line, answers);
         let mut steps = [0, 1].map(|i| self.hosts[i].steps.take());
         if let Some(planted) = self.planted {
             planted.change(&mut steps[1], answers[0] != answers[1]);
@@ -193,6 +218,24 @@ impl<'a> Pair<'a> {
         let [original, ours] = answers.map(text);
         let [original_steps, our_steps] = steps;
         [(original, original_steps), (ours, our_steps)]
+    }
+
+    /// The same answers, but for a port's counters: without what the accounts do not count.
+    fn counted(&mut self, line: &[u8], answers: [Vec<u8>; 2]) -> [Vec<u8>; 2] {
+        match format::parse(line) {
+            Some(Operation::Start(_)) => self.uncounted = Default::default(),
+            Some(Operation::Counters) if self.ports().is_some() => {
+                let told = self.told();
+                return [0, 1].map(|side| {
+                    let counted = told[side].iter().zip(self.uncounted[side]);
+                    let counted = counted.map(|(told, uncounted)| (told - uncounted).to_string());
+                    let counted: Vec<String> = counted.collect();
+                    format!("counters {}\n", counted.join(" ")).into_bytes()
+                });
+            }
+            _ => (),
+        }
+        answers
     }
 
     /// The level of the line only this crate tells, so the monitor does not ask for it.
@@ -225,7 +268,7 @@ impl<'a> Pair<'a> {
             return Err(told(&format!("counted: {accounts:?}"), &done, faults));
         }
         if original.1.contains(&Step::Told(Callback::TxLostByte)) {
-            self.accounts.go_on(b"lost");
+            self.account(b"lost");
         }
         let are_the_same = match original.0 == ours.0 {
             true => original.1 == ours.1,
@@ -244,6 +287,64 @@ impl<'a> Pair<'a> {
         }
     }
 
+    /// Has both answer a write of FCR with 0x02, which the accounts have answered, and goes on to the next line. Our port is
+    /// empty then, and its events are told so where bytes were thrown away. The original does nothing; its guest reads what
+    /// waits there, and these are the same bytes. After it both are as their accounts say. Answers our steps.
+    fn empty(&mut self, line: &[u8], faults: Faults) -> Result<Vec<Step>, String> {
+        let before = self.ports().expect("both have a port");
+        let told = self.told();
+        self.sides.go_on(line);
+        let [original, ours] = self.ask(line, faults);
+        let thrown_away = match before[1].waits() {
+            true => &[Step::Told(Callback::InBufferEmpty)][..],
+            false => &[],
+        };
+        let wrong = |why: &str| Err(told_steps(why, [&original.1, &ours.1], faults));
+        if ours.1 != thrown_away {
+            return wrong("FCR empties the port by other steps");
+        }
+        if !original.1.is_empty() || self.original.port().as_ref() != Some(&before[0]) {
+            return wrong("the original does something with FCR");
+        }
+        if is_to_empty(&before[0]) && self.fetch(&before[0]) != before[1].buffer {
+            return wrong("other bytes are thrown away");
+        }
+        for (side, told) in told.iter().enumerate() {
+            for (counter, told) in told.iter().enumerate() {
+                self.uncounted[side][counter] += self.told()[side][counter] - told;
+            }
+        }
+        let after = self.ports().expect("they have it still");
+        let mut left = Left::of(after[1].clone());
+        if let Some(planted) = self.planted {
+            planted.keep(&before[1], &mut left);
+        }
+        let accounts = self.accounts.each_ref();
+        // What is remembered of FCR is no part of a state of vm-superio's API.
+        let [account_of_original, port] = accounts.map(|account| SerialState {
+            fcr: 0,
+            ..account.port().expect("a port")
+        });
+        let line = self.accounts[1].answer(b"line") == b"line 1\n";
+        if left != (Left { port, line }) {
+            return wrong(&format!("FCR leaves {left:?}"));
+        }
+        match after[0] == account_of_original {
+            true => Ok(ours.1),
+            false => wrong(&format!("the original is left with {:?}", after[0])),
+        }
+    }
+
+    /// The original's guest reads what waits, DLAB closed for it; once where nothing does.
+    fn fetch(&mut self, port: &SerialState) -> Vec<u8> {
+        self.original.answer(b"w 03 00");
+        let reads = (0..port.buffer.len().max(1)).map(|_| self.original.answer(b"r 00"));
+        let read: Vec<u8> = reads.map(|answer| reply(&answer)).collect();
+        let line_control = format!("w 03 {:02x}", port.registers[LCR]);
+        self.original.answer(line_control.as_bytes());
+        read[..port.buffer.len()].to_vec()
+    }
+
     /// Has both do what they did just now once more, under faults.
     fn again(&mut self, line: &[u8], faults: Faults) -> Result<[Done; 2], String> {
         let done = self.ask(line, faults);
@@ -252,6 +353,23 @@ impl<'a> Pair<'a> {
             false => Err(told("different the second time", &done, faults)),
         }
     }
+}
+
+/// Whether it is a write of FCR with 0x02.
+fn empties(operation: &Operation) -> bool {
+    matches!(operation, Operation::WriteByte(2, value) if value & 0x02 != 0)
+}
+
+/// Whether that changes a port: a byte waits, or LSR says so of a port that was brought back.
+fn is_to_empty(port: &SerialState) -> bool {
+    port.waits() || port.registers[LSR] & 0x01 != 0
+}
+
+/// What a read was answered.
+fn reply(answer: &[u8]) -> u8 {
+    let answer = String::from_utf8_lossy(answer);
+    let word = answer.split_whitespace().nth(1).expect("a reply");
+    u8::from_str_radix(word, 16).expect("a byte")
 }
 
 /// The steps without the raises, and without what may come of them: what the call failed with.
@@ -301,6 +419,10 @@ fn told(why: &str, [original, ours]: &[Done; 2], faults: Faults) -> String {
     format!("{why}\nvm-superio: {original:?}\nserialpost: {ours:?}\nunder {faults:?}")
 }
 
+fn told_steps(why: &str, [original, ours]: [&[Step]; 2], faults: Faults) -> String {
+    format!("{why}\nvm-superio: {original:?}\nserialpost: {ours:?}\nunder {faults:?}")
+}
+
 /// Whether a run comes to a state only this crate can tell. It is compared with the judge's account, for each state
 /// that is brought back by the operation.
 fn told_apart(operation: &Operation, met: &mut Met) -> Result<(), String> {
@@ -332,7 +454,7 @@ fn drive(list: &[u8], seed: u64, planted: Option<&Planted>, met: &mut Met) -> Re
         };
         let restores = operation.brings_back();
         let rows = pair.sides.rows(line);
-        let accounts = pair.accounts.go_on(line).map(text);
+        let accounts = pair.account(line);
         let raises = raises_told(&accounts);
         // A write that raises for two kinds: where raising the first fails vm-superio leaves the second out, ours does
         // not (the README has it among what is different). So the first does not fail there. In a row, where the two
@@ -348,6 +470,12 @@ fn drive(list: &[u8], seed: u64, planted: Option<&Planted>, met: &mut Met) -> Re
             flush: numbers.once_in(FAULT_ONCE_IN),
         };
         let here = |why| format!("line {} of seed {seed}: {operation:?}\n{why}", number + 1);
+        if empties(&operation) && pair.ports().is_some() {
+            let steps = pair.empty(line, faults).map_err(here)?;
+            met.note(&operation, &steps);
+            met.note_rows(&rows);
+            continue;
+        }
         // Where a restore fails there is no new port. So it is done without faults first, and once more with them where
         // both raise alike.
         let first = if restores { Faults::default() } else { faults };
@@ -372,10 +500,25 @@ fn sending_list(bytes: usize) -> Vec<u8> {
     format!("serial\nw 01 02\n{sends}serial\nw 01 03\nb 61\n{sends}").into_bytes()
 }
 
+/// Empties ports by FCR: each kind enabled or not, no byte waiting, one, or as many as can, the divisor closed or open.
+fn emptying_list() -> Vec<u8> {
+    let mut list = String::new();
+    for ier in 0..4 {
+        for bytes in ["", " 61", &format!(" {}", "62".repeat(SerialState::SIZE))] {
+            for (line_control, value) in [(0x03, 0x02), (0x03, 0x07), (0x83, 0x03), (0x83, 0xff)] {
+                list += &format!("serial\nw 01 {ier:02x}\nb{bytes}\nw 03 {line_control:02x}\n");
+                list += &format!("w 02 {value:02x}\nline\nr 02\nr 05\nroom\nr 00\ncounters\n");
+            }
+        }
+    }
+    list.into_bytes()
+}
+
 fn compare(met: &mut Met) -> Result<(), String> {
     let everything = Options::default();
     drive(&exhaustive::list(&everything), 0, None, met)?;
     drive(&sending_list(50_000), 0, None, met)?;
+    drive(&emptying_list(), 0, None, met)?;
     for seed in 1..=5 {
         drive(&random::list(&everything, 200_000, seed), seed, None, met)?;
     }
@@ -388,7 +531,7 @@ fn compare(met: &mut Met) -> Result<(), String> {
 /// Whether short lists find each planted fault. Without one they find nothing. Answers how many there are.
 fn find_planted() -> Result<usize, String> {
     let random = random::list(&Options::default(), 20_000, 1);
-    let list = [sending_list(1000), random].concat();
+    let list = [sending_list(1000), emptying_list(), random].concat();
     drive(&list, 1, None, &mut Met::default())?;
     let faults = planted::faults();
     for fault in &faults {

@@ -1,14 +1,33 @@
-//! Faults that the comparison must find: each is planted in the steps of our side.
+//! Faults that the comparison must find: each is planted in the steps of our side, or in what FCR leaves of our port.
+
+use judge::devices::{SerialState, LSR};
 
 use crate::host::{Callback, Callback::*, Step, CLOCK_CALLBACKS, PORT_CALLBACKS};
+use crate::ours;
 
 type Change = dyn Fn(&mut Vec<Step>);
+
+/// A port of ours, with the level of its line.
+#[derive(Debug, PartialEq, Eq)]
+pub struct Left {
+    pub port: SerialState,
+    pub line: bool,
+}
+
+impl Left {
+    pub fn of(port: SerialState) -> Self {
+        let line = ours::is_high(&port);
+        Left { port, line }
+    }
+}
 
 pub struct Planted {
     pub what: String,
     /// Whether it shows only where the two answer differently: what may differ there besides is to be nothing.
     only_where_answers_differ: bool,
     change: Box<Change>,
+    /// Of a port that FCR emptied: what is left of it, given what was there before.
+    keep: fn(&Left, &mut Left),
 }
 
 impl Planted {
@@ -17,6 +36,14 @@ impl Planted {
             what,
             only_where_answers_differ: false,
             change: Box::new(change),
+            keep: |_, _| (),
+        }
+    }
+
+    fn of_fcr(what: &str, keep: fn(&Left, &mut Left)) -> Self {
+        Planted {
+            keep,
+            ..Self::new(format!("FCR keeps {what}"), |_| ())
         }
     }
 
@@ -32,6 +59,10 @@ impl Planted {
         if answers_differ || !self.only_where_answers_differ {
             (self.change)(steps);
         }
+    }
+
+    pub fn keep(&self, before: &SerialState, left: &mut Left) {
+        (self.keep)(&Left::of(before.clone()), left);
     }
 }
 
@@ -117,7 +148,19 @@ pub fn faults() -> Vec<Planted> {
     let line_fails = |steps: &[Step]| has(steps, "not raised");
     let write_fails = |steps: &[Step]| has(steps, "write") && !has(steps, "flush");
     let flush_fails = |steps: &[Step]| has(steps, "flush");
+    let fcr_empties = |steps: &[Step]| !has(steps, "BufferRead");
     let mut faults = vec![
+        missed(InBufferEmpty, " where FCR empties", fcr_empties),
+        Planted::of_fcr("LSR 0x01", |before, left| {
+            left.port.registers[LSR] |= before.port.registers[LSR] & 0x01;
+        }),
+        Planted::of_fcr("the line", |before, left| left.line |= before.line),
+        Planted::of_fcr("a byte", |before, left| {
+            left.port.buffer.extend(before.port.buffer.last());
+        }),
+        Planted::of_fcr("all bytes", |before, left| {
+            left.port.buffer.clone_from(&before.port.buffer);
+        }),
         missed(OutByte, " if the line fails", line_fails),
         missed(TxLostByte, " if the line fails", line_fails),
         missed(TxLostByte, " if the write fails", write_fails),

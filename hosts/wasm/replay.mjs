@@ -5,7 +5,8 @@
 // of `hosts/library wasm32-unknown-unknown`. What cannot be used gets one line on standard error and the status 2.
 import { createReadStream } from "node:fs";
 import { fail, loadNamed } from "./module.mjs";
-import { Clock, ClockCounters, ResetController, SerialCounters, SerialPort, isRefused, numberOf, raisesOf, sends } from "./serialpost.mjs";
+import { Clock, ClockCounters, ResetController, SerialCounters, SerialPort } from "./serialpost.mjs";
+import { isFlushed, isRefused, numberOf, raisesOf, sends } from "./serialpost.mjs";
 import { bytesOf, clockOf, clockText, hex, hexOf, portOf, portText } from "./text.mjs";
 
 const LONGEST_LINE = 8192;
@@ -14,6 +15,13 @@ const NO_OPERATION = "?";
 const number = (digits) => parseInt(digits, 16);
 const countersText = (counters) => ["counters", ...Object.values(counters.values)].join(" ");
 const reachableText = (reachable) => (reachable ? "reached" : "unreached");
+
+/** What a write did: the byte sent, or how many bytes were thrown away. */
+function writtenText(answer) {
+    if (sends(answer))
+        return hex(numberOf(answer), 2);
+    return isFlushed(answer) ? `-${numberOf(answer)}` : "--";
+}
 
 // Each device: the line with which it begins, which `begin` may refuse, and its accesses: what a line looks like, and how
 // it is answered.
@@ -37,7 +45,7 @@ class SerialLines {
         [/^w ([0-9a-f]{2}) ([0-9a-f]{2})$/, (offset, value) => {
             const answer = this.port.write(number(offset), number(value));
             this.counters.count(answer);
-            return `w ${sends(answer) ? hex(numberOf(answer), 2) : "--"} ${raisesOf(answer)}`;
+            return `w ${writtenText(answer)} ${raisesOf(answer)}`;
         }],
         [/^r ([0-9a-f]{2})$/, (offset) => {
             const answer = this.port.read(number(offset));

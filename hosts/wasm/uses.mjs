@@ -3,12 +3,13 @@
 //
 // Tests a WebAssembly module, and serialpost.mjs with it: it has the functions of the header and each is called, a run
 // played at once is the calls one after another, forms of states are read and written as recorded, ports have the size that
-// they are made with, and of an argument of 8 or 16 bits only these count. Exit status: 0 all holds, 1 something does not, 2 there is no such module.
+// they are made with, FCR empties them, and of an argument of 8 or 16 bits only these count. Exit status: 0 all holds, 1
+// something does not, 2 there is no such module.
 import { readFileSync } from "node:fs";
 import { fail, loadNamed } from "./module.mjs";
 import { Clock, ClockCounters, ResetController, SerialCounters, SerialPort } from "./serialpost.mjs";
 import { decodeClock, decodePort, encodeClock, encodePort } from "./serialpost.mjs";
-import { isDataRead, isDelivered, isDropped, isLooped, isNoneLeft, isRefused, numberOf } from "./serialpost.mjs";
+import { isDataRead, isDelivered, isDropped, isFlushed, isLooped, isNoneLeft, isRefused, numberOf } from "./serialpost.mjs";
 import { bytesOf, clockText, hexOf, portText } from "./text.mjs";
 
 const inRepository = (path) => readFileSync(new URL(`../../${path}`, import.meta.url), "latin1");
@@ -86,19 +87,28 @@ function runsAreCallsOneAfterAnother(library) {
 
 // ---- Forms of states
 
+const FCR = 9, SIZE = 15; // the registers that remember FCR, and that tell the size
+
+/** With FCR and the size behind it. */
+const fullPortText = ({ regs, waiting }) =>
+    `${portText({ regs, waiting })} ${hexOf(regs.slice(FCR, FCR + 1))} ${((63 + 4 * regs[SIZE]) % 1024) + 1}`;
+
+/** The form of a port in the current version. Version 2 had neither FCR nor a size, which are then 0 and 64. */
+const currentPort = (form) => (form[0] === 2 ? [3, ...form.slice(1, 11), 0, 0, ...form.slice(11)] : form);
+
 const DEVICES = {
-    serial: { decode: decodePort, encode: encodePort, text: portText },
-    clock: { decode: decodeClock, encode: encodeClock, text: clockText },
+    serial: { decode: decodePort, encode: encodePort, text: fullPortText, current: currentPort },
+    clock: { decode: decodeClock, encode: encodeClock, text: clockText, current: (form) => form },
 };
 
-/** What a line of the recorded forms says, once more; what was read must be written as the same bytes. */
+/** What a line of the recorded forms says, once more; what was read must be written as the same bytes, or in the current version. */
 function lineAgain(library, line) {
     const [device, digits] = line.split(" ");
-    const { decode, encode, text } = DEVICES[device];
+    const { decode, encode, text, current } = DEVICES[device];
     const form = bytesOf(digits === "-" ? "" : digits);
     const { saved, reason } = decode(library, form);
     if (saved)
-        expect(hexOf(encode(library, saved).form), hexOf(form), "a form that was read, written again");
+        expect(hexOf(encode(library, saved).form), hexOf(current(form)), "a form that was read, written again");
     return `${device} ${digits} => ${reason ?? `state ${text(saved)}`}`;
 }
 
@@ -112,9 +122,10 @@ function formsAreAsRecorded(library) {
 function statesWithoutAFormAreRefused(library) {
     const port = { ...new SerialPort(library).save(), waiting: anyBytes(65) };
     expect(encodePort(library, port).reason, "too many", "65 bytes wait");
-    const spare = { ...new SerialPort(library).save(), regs: new Uint8Array(16).fill(1, 14, 15) };
-    expect(encodePort(library, spare).reason, "spare", "a spare register is 1");
-    expect(encodePort(library, new SerialPort(library, 128).save()).reason, "spare", "a port of 128");
+    for (let register = FCR + 1; register < SIZE; register++) {
+        const spare = { ...new SerialPort(library).save(), regs: new Uint8Array(16).fill(1, register, register + 1) };
+        expect(encodePort(library, spare).reason, "spare", `register ${register} is 1`);
+    }
     expect(encodeClock(library, { ...new Clock(library).save(), spare: 1n }).reason, "spare", "a spare word is 1");
 }
 
@@ -165,6 +176,22 @@ function portsHaveTheSizeThatTheyAreMadeWith(library) {
     expect(new SerialPort(library).size(), 64, "the usual size");
 }
 
+function portsOfEverySizeAreKeptAsBytes(library) {
+    for (const size of [16, 32, 64, 128, 256, 512, 1024]) {
+        const port = new SerialPort(library, size), other = new SerialPort(library);
+        port.write(2, 0x8d);
+        port.input(anyBytes(size));
+        const saved = port.save(), { form } = encodePort(library, saved);
+        expect(`${form.length} ${form[0]} ${form[11]}`, `${15 + size} 3 ${0x89}`, "a form's length, version and FCR");
+        const read = decodePort(library, form).saved;
+        expect(fullPortText(read), fullPortText(saved), "a port that was written and read");
+        expect(other.restore(read).reachable, true, "whether a run comes to it");
+        expect(`${other.size()} ${other.room()}`, `${size} 0`, "its size and room");
+        const more = { ...saved, waiting: anyBytes(size + 1) };
+        expect(encodePort(library, more).reason, "too many", "one byte more than the size is written");
+    }
+}
+
 function otherNumbersAreNoSizes(library) {
     const port = new SerialPort(library, 256);
     port.input(anyBytes(100));
@@ -172,6 +199,24 @@ function otherNumbersAreNoSizes(library) {
     for (const size of [0, 15, 17, 48, 2048, 2 ** 32 - 1, 2 ** 32 + 64, 64.5, -1, NaN]) {
         expect(port.init(size), false, `whether a port of ${size} is made`);
         expect(`${port.size()} ${portText(port.save())}`, `256 ${before}`, "the port after that");
+    }
+}
+
+// ---- FCR
+
+function fcrEmptiesThePort(library) {
+    for (const size of [16, 1024]) {
+        const port = new SerialPort(library, size);
+        port.write(1, 1);
+        port.input(anyBytes(size));
+        expect(port.line(), true, "the line while bytes wait");
+        for (const thrown of [size, 0]) {
+            const answer = port.write(2, 0x07);
+            expect(`${isFlushed(answer)} ${numberOf(answer)}`, `true ${thrown}`, "how many bytes were thrown away");
+            expect(`${port.room()} ${port.line()} ${numberOf(port.read(5))}`, `${size} false ${0x60}`, "room, line and LSR");
+        }
+        expect(isFlushed(port.write(2, 0xc9)), false, "whether other bits empty it");
+        expect(port.save().regs[FCR], 0xc9, "what is remembered of them");
     }
 }
 
@@ -264,7 +309,7 @@ function upperBitsOfClockOffsetsDoNotCount(library) {
 
 function theHeaderHasThisVersion(library) {
     const [, version] = /^#define SERIALPOST_VERSION (\d+)$/m.exec(inRepository("include/serialpost.h"));
-    expect(library.calls.serialpost4_version(), Number(version), "the version");
+    expect(library.calls.serialpost5_version(), Number(version), "the version");
 }
 
 function main(words) {
@@ -279,7 +324,9 @@ function main(words) {
     clocksWithAnyOffsetAreKeptAsBytes(library);
     devicesAreSavedAndRestored(library);
     portsHaveTheSizeThatTheyAreMadeWith(library);
+    portsOfEverySizeAreKeptAsBytes(library);
     otherNumbersAreNoSizes(library);
+    fcrEmptiesThePort(library);
     theLineIsHighWhileAByteWaits(library);
     whatHappensIsToldAndCounted(library);
     countersStopAtTheHighestNumber(library);

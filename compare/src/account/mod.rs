@@ -1,7 +1,7 @@
 //! The account: what our devices do, and what vm-superio's do, each written from a description of its
 //! behaviour and not from its source. It is a second witness beside each, and the only one of the
 //! original where its source is not at hand. They differ in the interrupts of the serial port, and in that
-//! ours has ports of seven sizes; nowhere else.
+//! ours has ports of seven sizes and FCR; nowhere else.
 
 pub mod clock;
 pub mod original;
@@ -79,5 +79,29 @@ mod tests {
             let asked = [driver.answer(b"serial 16"), driver.answer(b"room")];
             assert_eq!(asked.concat(), answers.as_bytes());
         }
+    }
+
+    /// The one thing about FCR that no list can show.
+    #[test]
+    fn what_ours_remembers_of_fcr_is_saved_and_brought_back() {
+        let mut driver = Driver::new(Account::Ours);
+        let mut remembers = |line: &str, fcr: u8| {
+            driver.answer(line.as_bytes());
+            assert_eq!(driver.port().unwrap().fcr, fcr, "{line}");
+        };
+        remembers("serial", 0);
+        remembers("w 02 ff", 0xc9);
+        remembers("w 02 36", 0);
+        remembers("w 02 81", 0x81);
+        remembers("save", 0x81);
+        remembers("w 02 00", 0);
+        remembers("restore", 0x81);
+        remembers("restore 0c 00 00 01 03 60 08 b0 00 -", 0);
+        remembers("serial", 0);
+        remembers("restore", 0x81);
+        let mut driver = Driver::new(Account::Original);
+        driver.answer(b"serial");
+        driver.answer(b"w 02 ff");
+        assert_eq!(driver.port().unwrap().fcr, 0);
     }
 }

@@ -51,6 +51,10 @@ impl Way for Original {
         std::mem::replace(&mut port.registers[IIR], IIR_NONE)
     }
 
+    fn has_fcr(&self) -> bool {
+        false
+    }
+
     fn line(&self, _port: &SerialState) -> Option<bool> {
         None
     }

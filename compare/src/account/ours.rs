@@ -71,6 +71,10 @@ impl Way for Ours {
         IIR_NONE
     }
 
+    fn has_fcr(&self) -> bool {
+        true
+    }
+
     fn line(&self, port: &SerialState) -> Option<bool> {
         Some(KINDS.iter().any(|kind| is_active(*kind, port)))
     }

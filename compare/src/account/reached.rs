@@ -34,7 +34,10 @@ mod tests {
     /// the registers that no interrupt depends on only the loop is changed.
     fn all_met(account: Account, port: &str, size: usize) -> HashSet<SerialState> {
         let mut lines: Vec<String> = (0..0x10).map(|value| format!("w 01 {value:02x}")).collect();
-        lines.extend(["w 00 00", "w 04 10", "w 04 08", "r 00", "r 02", "b 00"].map(String::from));
+        let others = [
+            "w 00 00", "w 02 02", "w 04 10", "w 04 08", "r 00", "r 02", "b 00",
+        ];
+        lines.extend(others.map(String::from));
         lines.push(format!("b {}", "00".repeat(size)));
         let mut driver = Driver::new(account);
         driver.answer(port.as_bytes());
@@ -73,6 +76,7 @@ mod tests {
                         registers,
                         buffer,
                         size,
+                        fcr: 0,
                     };
                     assert_eq!(is_reached(&state), met.contains(&state), "{state:?}");
                     reached += usize::from(is_reached(&state));
@@ -90,6 +94,7 @@ mod tests {
             for free in [0, 1, 4, 6, 8] {
                 state.registers[free] = value;
             }
+            state.fcr = value & 0xc9;
             assert!(serial(&state) && original_serial(&state), "{state:?}");
         }
     }

@@ -1,7 +1,7 @@
 //! The serial port of the account. Its interrupts have two ways: ours (`ours`) and the original's
-//! (`original`). All else is the same.
+//! (`original`); and ours has FCR. All else is the same.
 
-use crate::devices::{self, PortCounters, Raised, SerialState};
+use crate::devices::{self, flushes, PortCounters, Raised, SerialState, Written};
 use crate::devices::{DLL, DLM, IER, IIR, LCR, LSR, MCR, MSR, SCR};
 
 const IIR_SHOWN: u8 = 0xc0;
@@ -9,6 +9,8 @@ pub(crate) const IIR_NONE: u8 = 0x01;
 pub(crate) const LSR_DATA_READY: u8 = 0x01;
 const LSR_FRESH: u8 = 0x60;
 const MSR_FRESH: u8 = 0xb0;
+/// What is remembered of FCR.
+const FCR_KEPT: u8 = 0xc9;
 
 /// A kind of interrupt: its bit in IER, and its bit in IIR.
 #[derive(Clone, Copy, PartialEq, Eq)]
@@ -50,6 +52,8 @@ pub trait Way {
     fn enabled(&self, port: &mut SerialState);
     /// IIR is read. Answers its code.
     fn identified(&self, port: &mut SerialState) -> u8;
+    /// Whether a write of FCR does something.
+    fn has_fcr(&self) -> bool;
     /// Whether the line is high, if that can be told.
     fn line(&self, port: &SerialState) -> Option<bool>;
     /// Whether a run comes to IIR beside the rest of the state.
@@ -64,6 +68,7 @@ pub fn reaches(way: &impl Way, port: &SerialState) -> bool {
         && port.registers[IER] < 0x10
         && SerialState::SIZES.contains(&port.size)
         && port.buffer.len() <= port.size
+        && port.fcr & !FCR_KEPT == 0
         && way.reaches_iir(port)
 }
 
@@ -72,7 +77,7 @@ const WIRES: [(u8, u8); 4] = [(0x02, 0x10), (0x01, 0x20), (0x04, 0x40), (0x08, 0
 
 /// What is counted: reads of RBR, bytes that go out, those of them that are lost, and reads of RBR after which
 /// no byte waits.
-#[derive(Default)]
+#[derive(Clone, Copy, Default)]
 struct Counted {
     fetched: usize,
     sent: usize,
@@ -95,6 +100,7 @@ impl<W: Way> Serial<W> {
             registers,
             buffer: Vec::new(),
             size,
+            fcr: 0,
         };
         Serial {
             way,
@@ -121,22 +127,37 @@ impl<W: Way> Serial<W> {
         self.way.received(&mut self.port, waited);
     }
 
-    fn transmit(&mut self, value: u8) -> Option<u8> {
+    fn transmit(&mut self, value: u8) -> Written {
         self.way.transmits(&mut self.port);
         if !self.port.loops() {
             self.counted.sent += 1;
-            return Some(value);
+            return Written::Sent(value);
         }
         if self.port.room() > 0 {
             self.receive(&[value]);
         }
-        None
+        Written::Quietly
     }
 
-    fn enable(&mut self, value: u8) -> Option<u8> {
+    fn enable(&mut self, value: u8) -> Written {
         self.port.registers[IER] = value & 0x0f;
         self.way.enabled(&mut self.port);
-        None
+        Written::Quietly
+    }
+
+    /// What is remembered has no effect, and shows nowhere. What is thrown away is not read: nothing is counted.
+    fn control_receiver(&mut self, value: u8) -> Written {
+        if !self.way.has_fcr() {
+            return Written::Quietly;
+        }
+        self.port.fcr = value & FCR_KEPT;
+        if !flushes(2, value) {
+            return Written::Quietly;
+        }
+        let thrown_away = std::mem::take(&mut self.port.buffer);
+        self.port.registers[LSR] &= !LSR_DATA_READY;
+        self.way.fetched(&mut self.port);
+        Written::Flushed(thrown_away.len())
     }
 
     fn fetch(&mut self) -> u8 {
@@ -167,19 +188,20 @@ impl<W: Way> Serial<W> {
 
 impl<W: Way> devices::Serial for Serial<W> {
     /// What is written at any other offset has no effect.
-    fn write(&mut self, offset: u8, value: u8) -> (Option<u8>, Raised) {
+    fn write(&mut self, offset: u8, value: u8) -> (Written, Raised) {
         let place = match (offset, self.port.divisor_is_open()) {
             (0, false) => return self.raised(|port| port.transmit(value)),
             (0, true) => DLL,
             (1, false) => return self.raised(|port| port.enable(value)),
             (1, true) => DLM,
+            (2, _) => return self.raised(|port| port.control_receiver(value)),
             (3, _) => LCR,
             (4, _) => MCR,
             (7, _) => SCR,
-            _ => return (None, 0),
+            _ => return (Written::Quietly, 0),
         };
         self.port.registers[place] = value;
-        (None, 0)
+        (Written::Quietly, 0)
     }
 
     fn read(&mut self, offset: u8) -> (u8, Raised) {
@@ -197,6 +219,12 @@ impl<W: Way> devices::Serial for Serial<W> {
             _ => 0,
         };
         (value, 0)
+    }
+
+    fn read_unheard(&mut self, offset: u8) {
+        let counted = self.counted;
+        self.read(offset);
+        self.counted = counted;
     }
 
     fn input(&mut self, bytes: &[u8]) -> (Option<usize>, Raised) {

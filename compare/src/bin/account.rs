@@ -4,15 +4,21 @@ use std::process::ExitCode;
 
 use judge::account::Account;
 use judge::command_line::program;
-use judge::driver::serve;
+use judge::driver::{serve, Driver};
 
 fn main() -> ExitCode {
     program("account", |arguments| {
-        serve(match arguments {
-            [] => Account::Ours,
-            ["--original"] => Account::Original,
-            ["--quiet-enable"] => Account::QuietEnable,
-            _ => return Err("usage: account [--original | --quiet-enable] < LIST".into()),
+        const USAGE: &str = "usage: account [(--original | --quiet-enable) [--fetches]] < LIST";
+        let (account, others) = match arguments {
+            ["--original", others @ ..] => (Account::Original, others),
+            ["--quiet-enable", others @ ..] => (Account::QuietEnable, others),
+            [] => (Account::Ours, arguments),
+            _ => return Err(USAGE.into()),
+        };
+        serve(match others {
+            [] => Driver::new(account),
+            ["--fetches"] => Driver::fetching(account),
+            _ => return Err(USAGE.into()),
         })?;
         Ok(ExitCode::SUCCESS)
     })

@@ -18,6 +18,7 @@ const USAGE: &str = "usage: generate KIND [OPTION..] > LIST
   --no-saves            without saved states
   --no-lines            without the question for the interrupt line
   --no-counters         without counters and lost bytes
+  --no-flushes          of a random list: with no more writes of FCR than of any register
   --sizes               of a random list: with ports of all sizes, which vm-superio has not";
 
 fn device(name: &str) -> Result<Device, Trouble> {
@@ -35,6 +36,7 @@ fn run(arguments: &[&str]) -> Result<ExitCode, Trouble> {
             "--no-saves" => options.saves = false,
             "--no-lines" => options.lines = false,
             "--no-counters" => options.counters = false,
+            "--no-flushes" => options.flushes = false,
             "--sizes" => options.sizes = true,
             "--devices" => {
                 let names = arguments.next().ok_or(USAGE)?.split(',');

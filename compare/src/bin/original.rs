@@ -13,14 +13,16 @@ use std::process::ExitCode;
 use std::rc::Rc;
 
 use judge::command_line::program;
-use judge::driver::serve_ahead;
+use judge::driver::{serve_ahead, Driver};
 
 fn main() -> ExitCode {
     program("original", |arguments| {
-        if !arguments.is_empty() {
-            return Err("usage: original < LIST > ANSWERS".into());
-        }
-        serve_ahead(original::Monitor(Rc::default()))?;
+        let monitor = original::Monitor(Rc::default());
+        serve_ahead(match arguments {
+            [] => Driver::new(monitor),
+            ["--fetches"] => Driver::fetching(monitor),
+            _ => return Err("usage: original [--fetches] < LIST > ANSWERS".into()),
+        })?;
         Ok(ExitCode::SUCCESS)
     })
 }

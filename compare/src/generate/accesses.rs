@@ -12,8 +12,10 @@ impl Writer {
     // ---- The serial port
 
     pub(super) fn serial(&mut self) {
-        match self.numbers.below(16) {
-            0..=1 => self.at_a_limit(),
+        let kinds = if self.list.options.flushes { 18 } else { 16 };
+        match self.numbers.below(kinds) {
+            0..=1 | 16 => self.at_a_limit(),
+            17 => self.control_receiver(),
             2..=4 => self.input(),
             5 => self.enable(),
             6 => self.control(),
@@ -32,12 +34,14 @@ impl Writer {
 
     /// Something that interrupts depend on, and the line after it.
     pub(super) fn interrupts(&mut self) {
-        let line = match self.numbers.below(8) {
+        let kinds = if self.list.options.flushes { 9 } else { 8 };
+        let line = match self.numbers.below(kinds) {
             0..=1 => "r 02",
             2 => "r 00",
             3 => "b 61",
             4 => "w 00 55",
             5 => self.numbers.pick(&["w 03 03", "w 04 08", "w 04 18"]),
+            8 => self.numbers.pick(&["w 02 02", "w 02 07", "w 02 05"]),
             _ => self
                 .numbers
                 .pick(&["w 01 00", "w 01 01", "w 01 02", "w 01 03"]),
@@ -104,12 +108,21 @@ impl Writer {
         let (line, modem) = self.numbers.pick(&settings);
         self.write(4, modem);
         self.write(3, line);
-        match self.numbers.below(3) {
+        let kinds = if self.list.options.flushes { 4 } else { 3 };
+        match self.numbers.below(kinds) {
             0 => self.add("r 00"),
             1 => self.write_some(0),
-            _ => self.input(),
+            2 => self.input(),
+            _ => self.control_receiver(),
         }
         self.add("r 05");
+    }
+
+    /// Writes FCR, mostly so that it empties the receiver.
+    fn control_receiver(&mut self) {
+        let values = [0x02, 0x03, 0x06, 0x07, 0xc2, 0xcf, 0x04, 0x05, 0xc1];
+        let value = self.numbers.pick(&values);
+        self.write(2, value);
     }
 
     fn empty_to(&mut self, target: usize) {

@@ -108,7 +108,7 @@ fn restored_registers(list: &mut List) {
 /// access, or a byte that is lost, and the state. The other registers are no fresh port's, so that a refusal shows.
 fn restored_marks(list: &mut List) {
     const IIRS: [u8; 11] = [0, 1, 2, 3, 4, 5, 6, 7, 8, 0xc6, 0xff];
-    const ACCESSES: [&str; 9] = [
+    const ACCESSES: [&str; 11] = [
         "b 7a",
         "r 00",
         "r 02",
@@ -118,6 +118,8 @@ fn restored_marks(list: &mut List) {
         "w 01 01",
         "w 01 02",
         "w 01 03",
+        "w 02 02",
+        "w 02 07\nr 02",
     ];
     for size in [0, 1, 63, 64, 65] {
         let waiting = different_bytes(size);
@@ -244,7 +246,7 @@ mod tests {
     fn every_run_of_up_to_three_operations_is_there() {
         let runs = |letters: usize| 1 + letters + letters.pow(2) + letters.pow(3);
         let accesses = 256 + 65_536;
-        let restored = 2 * 9 * 256 + 5 * 4 * 17 * 11 * 9;
+        let restored = 2 * 9 * 256 + 5 * 4 * 17 * 11 * 11;
         for (device, saves, expected) in [
             (Device::Serial, false, accesses + runs(60)),
             (Device::Serial, true, accesses + runs(62) + restored),

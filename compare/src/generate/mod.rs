@@ -25,6 +25,9 @@ pub struct Options {
     pub lines: bool,
     /// Ask for the counters, and lose bytes. The same holds.
     pub counters: bool,
+    /// Write FCR where the receiver is at a limit, and among what interrupts depend on. The same holds; but some of its
+    /// writes were always there, among all others.
+    pub flushes: bool,
     /// Make ports of all sizes. vm-superio has none but the usual one.
     pub sizes: bool,
 }
@@ -37,6 +40,7 @@ impl Default for Options {
             saves: true,
             lines: true,
             counters: true,
+            flushes: true,
             sizes: false,
         }
     }
@@ -70,13 +74,15 @@ pub struct List {
 
 impl List {
     pub fn new(options: &Options) -> Self {
-        let account = match options.sizes {
-            true => Account::Ours,
-            false => Account::Original,
+        // An older list was written when nothing was thrown away.
+        let driver = match (options.sizes, options.flushes) {
+            (true, _) => Driver::new(Account::Ours),
+            (false, true) => Driver::fetching(Account::Original),
+            (false, false) => Driver::new(Account::Original),
         };
         List {
             options: options.clone(),
-            driver: Driver::new(account),
+            driver,
             asking: 0,
             text: Vec::new(),
         }
@@ -127,6 +133,7 @@ mod tests {
             saves: false,
             lines: false,
             counters: false,
+            flushes: false,
             sizes: false,
         });
         list.add("counters\nlost\nserial 64");

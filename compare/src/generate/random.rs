@@ -1,5 +1,5 @@
-//! Long random lists. They steer to the limits: a buffer that is empty, one short of full and full, the
-//! divisor and the loop open and closed, offsets beyond the registers, times at the ends of 32 and 64
+//! Long random lists. They steer to the limits: a buffer that is empty, one short of full and full, and emptied there,
+//! the divisor and the loop open and closed, offsets beyond the registers, times at the ends of 32 and 64
 //! bits and going backwards, states that are saved and brought back, bytes that are lost, and lines that are
 //! no operation. The counters are asked for every few lines. Where ports of all sizes are asked for, the limits are
 //! those of the present one.
@@ -125,6 +125,10 @@ impl Writer {
         } else {
             self.add(device.word());
         }
+        // What a fresh device has of the one before is soon gone. (Older lists did not look.)
+        if self.list.options.flushes && self.numbers.once_in(3) {
+            self.add("state");
+        }
         self.now = 0;
     }
 
@@ -132,11 +136,17 @@ impl Writer {
     fn start_of_some_size(&mut self) {
         let line = self.numbers.pick(malformed::SIZES);
         self.exactly(line);
+        if self.numbers.once_in(4) {
+            self.exactly("state");
+        }
         if self.numbers.once_in(8) {
             self.add("serial");
         } else {
             let size = self.numbers.pick(&SerialState::SIZES);
             self.add(format!("serial {size}"));
+        }
+        if self.numbers.once_in(3) {
+            self.add("room");
         }
     }
 

@@ -1,6 +1,6 @@
 //! A list about the sizes of a port, which vm-superio does not have. It leaves nothing out within its bounds: every
-//! number up to twice the largest size, every number of bytes into a port of every size, a port of every size moved
-//! into one of every other, and every run of up to four operations on the smallest.
+//! number up to twice the largest size, every number of bytes into a port of every size and thrown away there, a port
+//! of every size moved into one of every other, and every run of up to four operations on the smallest.
 
 use super::exhaustive::{different_bytes, every_run};
 use super::{malformed, List, Options};
@@ -58,12 +58,15 @@ fn every_number(list: &mut List) {
     }
 }
 
-/// Each number of bytes, up to one more than the size, at once; then two more, from outside and through the loop.
+/// Each number of bytes, up to one more than the size, at once; then two more, from outside and through the loop. The
+/// same number thrown away, and as many again.
 fn every_filling(list: &mut List) {
     for size in SIZES {
         for count in 0..=size + 1 {
             list.add(format!("serial {size}\n{}\nroom\nb 7c7d", input(count)));
             list.add("room\nw 04 10\nw 00 7e\nw 00 7f\nroom\nr 05\nstate");
+            list.add(format!("serial {size}\n{}\nw 02 03\nroom", input(count)));
+            list.add(format!("{}\nstate\nw 02 02\nr 05", input(count)));
         }
     }
 }
@@ -110,7 +113,7 @@ fn given_states(list: &mut List) {
 
 fn alphabet(saves: bool) -> Vec<String> {
     let mut alphabet = [
-        "r 00", "r 02", "w 00 55", "w 01 00", "w 01 03", "w 04 08", "w 04 10", "b 21",
+        "r 00", "r 02", "w 00 55", "w 01 00", "w 01 03", "w 02 03", "w 04 08", "w 04 10", "b 21",
     ]
     .map(String::from)
     .to_vec();
@@ -130,10 +133,10 @@ mod tests {
     fn everything_is_there() {
         let text = list(&Options::default());
         let starts = asking_lines(&text).filter(|line| is_start(line)).count();
-        let runs = 1 + 13 + 13 * 13 + 13 * 13 * 13 + 13 * 13 * 13 * 13;
+        let runs = (0..=4).map(|length| 14_usize.pow(length)).sum::<usize>();
         let numbers = 2049 + malformed::SIZES.len() + SIZES.len() + 2 * SIZES.len() + 4;
         let fillings = SIZES.map(|size| size + 2).iter().sum::<usize>();
-        let expected = runs + numbers + fillings + SIZES.len() + 49 * 4 * 2 + 7 * 11;
+        let expected = runs + numbers + 2 * fillings + SIZES.len() + 49 * 4 * 2 + 7 * 11;
         assert_eq!(starts, expected);
     }
 }

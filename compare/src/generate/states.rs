@@ -40,6 +40,7 @@ fn any_port(numbers: &mut Numbers) -> SerialState {
         registers: [0; 9].map(|_| numbers.byte()),
         buffer: numbers.bytes(size),
         size: SerialState::SIZE,
+        fcr: 0,
     }
 }
 

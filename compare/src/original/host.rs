@@ -66,6 +66,15 @@ impl Host {
         callbacks.map(|callback| self.told.get()[callback as usize])
     }
 
+    /// Does something of which nothing is noted, and no callback counted.
+    pub fn unheard<T>(&self, does: impl FnOnce() -> T) -> T {
+        let (told, steps) = (self.told.get(), self.steps.take());
+        let done = does();
+        self.told.set(told);
+        self.steps.replace(steps);
+        done
+    }
+
     pub fn note(&self, step: Step) {
         self.steps.borrow_mut().push(step);
     }

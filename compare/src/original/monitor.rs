@@ -6,7 +6,9 @@ use std::io::{self, Write};
 use std::rc::Rc;
 
 use api::serial::Error;
-use judge::devices::{self, ClockCounters, ClockState, Devices, PortCounters, Raised, SerialState};
+use judge::devices::{
+    self, ClockCounters, ClockState, Devices, PortCounters, Raised, SerialState, Written,
+};
 use told_time::time::tell;
 
 use crate::host::{Faults, Host, Step, CLOCK_CALLBACKS, PORT_CALLBACKS};
@@ -90,15 +92,15 @@ fn failure(error: Error<&'static str>) -> Step {
 }
 
 impl devices::Serial for Wired<api::Serial<Wire, Events, Wire>> {
-    fn write(&mut self, offset: u8, value: u8) -> (Option<u8>, Raised) {
+    fn write(&mut self, offset: u8, value: u8) -> (Written, Raised) {
         let done = self.call().write(offset, value);
         self.host.outcome(done.map_err(failure));
-        (self.host.sent(), self.host.raised())
+        (self.host.sent().into(), self.host.raised())
     }
 
     /// The sink fails, so that the device itself tells of the loss, and the interrupt is raised all the same.
     /// It fails as it is given the byte, or as it is flushed.
-    fn write_to_lose(&mut self, offset: u8, value: u8) -> (Option<u8>, Raised) {
+    fn write_to_lose(&mut self, offset: u8, value: u8) -> (Written, Raised) {
         let faults = Faults {
             write: value & 1 == 0,
             flush: value & 1 == 1,
@@ -107,7 +109,7 @@ impl devices::Serial for Wired<api::Serial<Wire, Events, Wire>> {
         self.host.faults.set(faults);
         let written = self.write(offset, value);
         self.host.faults.set(Faults::default());
-        self.lost_already = written.0.is_some();
+        self.lost_already = matches!(written.0, Written::Sent(_));
         written
     }
 
@@ -126,6 +128,11 @@ impl devices::Serial for Wired<api::Serial<Wire, Events, Wire>> {
 
     fn read(&mut self, offset: u8) -> (u8, Raised) {
         (self.call().read(offset), self.host.raised())
+    }
+
+    fn read_unheard(&mut self, offset: u8) {
+        let host = self.host.clone();
+        host.unheard(|| self.device.read(offset));
     }
 
     fn input(&mut self, bytes: &[u8]) -> (Option<usize>, Raised) {
@@ -149,6 +156,7 @@ impl devices::Serial for Wired<api::Serial<Wire, Events, Wire>> {
             registers,
             buffer,
             size,
+            fcr: 0,
         }
     }
 

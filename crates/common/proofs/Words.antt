@@ -6,7 +6,7 @@ use native.Mathlib.Omega.{arith}
 use borrow.Author.Tests.{eq-eqb, ne-eqb}
 use lib.Bits.{bitAnd, and-high}
 use Rattle.common.specs.Answer.{refusedBit, sentBit, reachableBit, dataReadBit, deliveredBit, noneLeftBit, loopedBit, droppedBit}
-use Rattle.common.specs.Answer.{oneRaise}
+use Rattle.common.specs.Answer.{flushedBit, oneRaise}
 use Rattle.common.specs.Bits.{on}
 
 -- A bit as a number.
@@ -17,12 +17,12 @@ weighs : (t : Bool) (weight : ℕ) → (cond t weight 0 ≡ weight * one t) × (
 weighs true weight = (omega arith, omega arith)
 weighs false weight = (omega arith, omega arith)
 
--- A number, refused, a byte sent, reachable, data read, delivered, none left, looped, dropped, and the raises.
-module _ (n : ℕ) (r s e d b l i o : Bool) (m : ℕ) where
+-- A number, refused, a byte sent, reachable, data read, delivered, none left, looped, dropped, flushed, and the raises.
+module _ (n : ℕ) (r s e d b l i o t : Bool) (m : ℕ) where
   abbrev pub word : ℕ
   word =
       n + (cond r refusedBit 0 + (cond s sentBit 0 + (cond e reachableBit 0 + (cond d dataReadBit 0 + (cond b deliveredBit 0 +
-      (cond l noneLeftBit 0 + (cond i loopedBit 0 + (cond o droppedBit 0 + oneRaise * m))))))))
+      (cond l noneLeftBit 0 + (cond i loopedBit 0 + (cond o droppedBit 0 + (cond t flushedBit 0 + oneRaise * m)))))))))
 
   pub record Parts (w : ℕ) : Type 0 where
     pub number : w % refusedBit ≡ n
@@ -34,10 +34,11 @@ module _ (n : ℕ) (r s e d b l i o : Bool) (m : ℕ) where
     pub noneLeft : w / noneLeftBit % 2 ≡ one l
     pub looped : w / loopedBit % 2 ≡ one i
     pub dropped : w / droppedBit % 2 ≡ one o
+    pub flushed : w / flushedBit % 2 ≡ one t
     pub raises : w / oneRaise ≡ m
 
   weighed : word ≡ n + (refusedBit * one r + (sentBit * one s + (reachableBit * one e + (dataReadBit * one d + (deliveredBit * one b +
-      (noneLeftBit * one l + (loopedBit * one i + (droppedBit * one o + oneRaise * m))))))))
+      (noneLeftBit * one l + (loopedBit * one i + (droppedBit * one o + (flushedBit * one t + oneRaise * m)))))))))
   weighed = omega (
     arith,
     weighs r refusedBit .0,
@@ -48,10 +49,11 @@ module _ (n : ℕ) (r s e d b l i o : Bool) (m : ℕ) where
     weighs l noneLeftBit .0,
     weighs i loopedBit .0,
     weighs o droppedBit .0,
+    weighs t flushedBit .0,
   )
 
-  small : (one r ≤ 1) × ((one s ≤ 1) × ((one e ≤ 1) × ((one d ≤ 1) × ((one b ≤ 1) × ((one l ≤ 1) × ((one i ≤ 1) × (one o ≤ 1)))))))
-  small = (weighs r 0 .1, (weighs s 0 .1, (weighs e 0 .1, (weighs d 0 .1, (weighs b 0 .1, (weighs l 0 .1, (weighs i 0 .1, weighs o 0 .1)))))))
+  small : (one r ≤ 1) × ((one s ≤ 1) × ((one e ≤ 1) × ((one d ≤ 1) × ((one b ≤ 1) × ((one l ≤ 1) × ((one i ≤ 1) × ((one o ≤ 1) × (one t ≤ 1))))))))
+  small = (weighs r 0 .1, (weighs s 0 .1, (weighs e 0 .1, (weighs d 0 .1, (weighs b 0 .1, (weighs l 0 .1, (weighs i 0 .1, (weighs o 0 .1, weighs t 0 .1))))))))
 
   -- Where the number has 16 bits.
   pub parts : (w : ℕ) → w ≡ word → n < refusedBit → Parts w
@@ -67,6 +69,7 @@ module _ (n : ℕ) (r s e d b l i o : Bool) (m : ℕ) where
         noneLeft = omega (arith, k, small);
         looped = omega (arith, k, small);
         dropped = omega (arith, k, small);
+        flushed = omega (arith, k, small);
         raises = omega (arith, k, small);
       }
 

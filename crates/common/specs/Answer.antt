@@ -1,8 +1,8 @@
 -- The word that a call answers: one layout for all calls of all devices.
 use Prim.Native.Nat.{ℕ}
 
--- The low 16 bits are a number: the reply, the byte sent, how many bytes are taken or saved. Then one bit for each thing that there is to
--- say. Those from 0x100_0000 to 0x800_0000 are spare. From 0x1000_0000 on stands how often the interrupt is raised.
+-- The low 16 bits are a number: the reply, the byte sent, how many bytes are taken, thrown away or saved. Then one bit for each thing that there is to
+-- say. Those from 0x200_0000 to 0x800_0000 are spare. From 0x1000_0000 on stands how often the interrupt is raised.
 
 -- Refused: an input because the port is full, a restore of too many bytes, an invalid access of the clock, a form.
 abbrev pub refusedBit : ℕ
@@ -32,6 +32,10 @@ loopedBit = 0x40_0000
 
 abbrev pub droppedBit : ℕ
 droppedBit = 0x80_0000
+
+-- FCR emptied the receiver: as many waiting bytes as the number says were thrown away.
+abbrev pub flushedBit : ℕ
+flushedBit = 0x100_0000
 
 abbrev pub oneRaise : ℕ
 oneRaise = 0x1000_0000

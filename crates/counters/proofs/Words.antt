@@ -9,10 +9,10 @@ use Rattle.common.proofs.Words.{word, Parts, parts, bit-on}
 use Rattle.counters.specs.Counters.{counted, answered, Serial, serialAfter, read, write, Clock, clockAfter}
 
 -- The bits in the order of the word.
-module _ (number raises : ℕ) (refused sent reachable dataRead delivered noneLeft looped dropped : Bool) (h : number < 0x1_0000) {w : ℕ}
-    (e : w ≡ word number refused sent reachable dataRead delivered noneLeft looped dropped raises) where
-  told : Parts number refused sent reachable dataRead delivered noneLeft looped dropped raises w
-  told = parts number refused sent reachable dataRead delivered noneLeft looped dropped raises w e h
+module _ (number raises : ℕ) (refused sent reachable dataRead delivered noneLeft looped dropped flushed : Bool) (h : number < 0x1_0000) {w : ℕ}
+    (e : w ≡ word number refused sent reachable dataRead delivered noneLeft looped dropped flushed raises) where
+  told : Parts number refused sent reachable dataRead delivered noneLeft looped dropped flushed raises w
+  told = parts number refused sent reachable dataRead delivered noneLeft looped dropped flushed raises w e h
 
   says-refused : on w refusedBit ≡ refused
   says-refused = bit-on 16 w refused (omega arith) (told .refused)

@@ -9,7 +9,7 @@ use lib.ListN.{length, getD, take}
 use borrow.Author.Tests.{leb-true}
 use Rattle.serial.specs.Port.{Port}
 use Rattle.runs.specs.Run.{Op, Answer, step, run}
-use Rattle.runs.specs.Accepted.{allAccepted, allDelivered}
+use Rattle.runs.specs.Accepted.{allAccepted, allGone}
 use Rattle.runs.specs.Status.{Truthful}
 use Rattle.runs.specs.Reachable.{Reachable}
 use Rattle.runs.specs.Reached.{OfBytes}
@@ -111,9 +111,10 @@ brings-back here saved = go (fits (saved .port))
 
 -- ---- No byte lost
 
--- Of the history that counts: what waited at its beginning and then all that was accepted is all that was delivered and then what waits.
+-- Of the history that counts: what waited at its beginning and then all that was accepted is all that was delivered or
+-- thrown away, and then what waits.
 pub conserved-across : (p : Port) (ds : List Deed) → let s = after (starts p) ds .here in
-    s .origin .waiting ++ allAccepted (s .ops) (s .answers) ≡ allDelivered (s .answers) ++ s .port .waiting
+    s .origin .waiting ++ allAccepted (s .ops) (s .answers) ≡ allGone (s .answers) ++ s .port .waiting
 conserved-across p ds =
     let s = after (starts p) ds .here in
     let k = as-if-run p ds in
@@ -181,19 +182,19 @@ take-first zero a b h = refl
 take-first (suc k) [] b h = absurd (omega arith)
 take-first (suc k) (x ∷ a) b h = ap (λ (l : List ℕ). x ∷ l) (take-first k a b (omega arith))
 
--- From a restored port the first bytes to be delivered are those that waited when it was saved ..
-pub first-delivered : (p : Port) (os : List Op) (k : ℕ) → k ≤ length (p .waiting)
-    → let d = allDelivered (run p os .answers) in
+-- From a restored port the first bytes that leave are those that waited when it was saved ..
+pub first-gone : (p : Port) (os : List Op) (k : ℕ) → k ≤ length (p .waiting)
+    → let d = allGone (run p os .answers) in
     k ≤ length d → take k d ≡ take k (p .waiting)
-first-delivered p os k w h =
+first-gone p os k w h =
     let r = run p os in
-    sym (take-first k (allDelivered (r .answers)) (r .port .waiting) h)
+    sym (take-first k (allGone (r .answers)) (r .port .waiting) h)
     ∙ ap (take k) (sym (conserved p os))
     ∙ take-first k (p .waiting) (allAccepted os (r .answers)) w
 
--- .. so those of them that had been delivered since are delivered again, the same and in the same order. What was accepted since then is
+-- .. so those of them that had left since leave again, the same and in the same order. What was accepted since then is
 -- not there: from then on `conserved` speaks of what waited when it was saved and of what is accepted afterwards.
-pub delivered-again : (p : Port) (os more : List Op) (k : ℕ) → k ≤ length (p .waiting)
-    → let a = allDelivered (run p os .answers) in let b = allDelivered (run p more .answers) in
+pub gone-again : (p : Port) (os more : List Op) (k : ℕ) → k ≤ length (p .waiting)
+    → let a = allGone (run p os .answers) in let b = allGone (run p more .answers) in
     k ≤ length a → k ≤ length b → take k b ≡ take k a
-delivered-again p os more k w h g = first-delivered p more k w g ∙ sym (first-delivered p os k w h)
+gone-again p os more k w h g = first-gone p more k w g ∙ sym (first-gone p os k w h)

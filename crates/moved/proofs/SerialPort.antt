@@ -1,14 +1,12 @@
 -- A serial port that was saved, written as bytes, read elsewhere and restored there goes on as it would have here.
 use mathlib.Core.Path.{_≡_, refl, sym, ap, subst, _∙_}
-use mathlib.Core.Bool.{Bool}
+use mathlib.Core.Bool.{Bool, true}
 use mathlib.Core.List.{List, [], _∷_, _++_}
-use Prim.Native.Nat.{ℕ, suc, _+_, _-_, _*_, _/_, _%_, _≤_, _<_}
-use native.Mathlib.Nat.{mod-eq-of-lt, mod-eq-sub-mod}
-use native.Mathlib.Decide.{decLt}
+use Prim.Native.Nat.{ℕ, suc, _/_, _%_, _≤_}
 use native.Mathlib.Omega.{arith}
-use lib.ListN.{length, getD, take, drop, length-drop}
-use lib.Seq.{take-append-seam, getD-drop}
-use Rattle.serial.specs.Port.{Port, fresh}
+use lib.ListN.{length, take}
+use lib.Seq.{take-append-seam}
+use Rattle.serial.specs.Port.{Port, isSize, fresh}
 use Rattle.serial.specs.Layout.{sizeOf, portOf, spareRegisters}
 use Rattle.serial.specs.Calls.{MakesFresh}
 use Rattle.runs.specs.Run.{Op, step, run}
@@ -20,33 +18,9 @@ use Rattle.serial_saved.specs.Saved.{Restore}
 use Rattle.serial_saved.specs.Calls.{Restores}
 use Rattle.serial_saved.proofs.Bringing.{enough}
 use Rattle.serial_saved.proofs.Saving.{restore-after-save, saved-reachable}
-use Rattle.serial_form.specs.Form.{others, freshOthers}
 use Rattle.serial_form.specs.Calls.{written}
 use Rattle.serial_form.proofs.RoundTrip.{there-and-back}
-use Rattle.serial_form.proofs.Answers.{in-two}
 use Rattle.moved.specs.SerialPort.{HasForm, Leaves, Arrives, Same, SamePlayed}
-
--- there are sixteen registers where the form has all but seven
-sixteen : (regs : List ℕ) → others regs ≡ freshOthers → length regs ≡ 16
-sixteen regs z =
-    let behind : length (drop 9 regs) ≡ 7 = ap length z in
-    omega (arith, length-drop 9 regs)
-
--- the size of a port that has a form
-sixty-four : (regs : List ℕ) → others regs ≡ freshOthers → sizeOf regs ≡ 64
-sixty-four regs z =
-    let told : getD regs 15 0 ≡ 0 = sym (getD-drop 9 regs 6 0) ∙ ap (λ (l : List ℕ). getD l 6 0) z in
-    omega arith
-
--- a byte that tells 64
-tells-64 : (told : ℕ) → told < 256 → (63 + 4 * told) % 1024 + 1 ≡ 64 → told ≡ 0
-tells-64 told h e = go (decLt (63 + 4 * told) 1024)
-  where
-    go : Dec (63 + 4 * told < 1024) → told ≡ 0
-    go (yes l) = omega (arith, mod-eq-of-lt l)
-    go (no l) =
-        let m : 63 + 4 * told - 1024 < 1024 = omega arith in
-        absurd (omega (arith, mod-eq-sub-mod {n = 63 + 4 * told} {m = 1024} (omega arith), mod-eq-of-lt m))
 
 size-told : (regs pos ring : List ℕ) → sizeOf regs ≡ portOf regs pos ring .size
 unfolding portOf
@@ -54,18 +28,13 @@ size-told regs pos ring = refl
 
 module _ {regs pos ring form regs′ pos′ ring′ : List ℕ} (f : HasForm regs pos ring) (l : Leaves regs pos ring form)
     (a : Arrives form regs′ pos′ ring′) where
-  few : length (take (l .count) (l .waiting)) ≤ 64
-  few = rw (l .saves .bytes) (f .fits)
-
-  in-size : length (portOf regs pos ring .waiting) ≤ portOf regs pos ring .size
-  unfolding portOf
-  in-size = rw (sixty-four regs (f .zero)) (f .fits)
-
-  none-other : others (l .saved) ≡ freshOthers
-  none-other = ap others (l .saves .registers) ∙ f .zero
+  few : length (take (l .count) (l .waiting)) ≤ sizeOf (l .saved)
+  few = rw (l .saves .bytes, l .saves .registers, size-told regs pos ring) (f .fits)
 
   back : (a .count ≡ length (take (l .count) (l .waiting))) × ((a .saved ≡ l .saved) × (a .waiting ≡ written (take (l .count) (l .waiting)) (a .waiting₀)))
-  back = there-and-back (sixteen (l .saved) none-other) few none-other (l .encodes) (l .room) (rw (l .bytes) at (a .decodes))
+  back =
+      there-and-back (ap length (l .saves .registers) ∙ f .long) few (ap spareRegisters (l .saves .registers) ∙ f .zero) (l .encodes) (l .room)
+      (rw (l .bytes) at (a .decodes))
 
   waiting-back : take (a .count) (a .waiting) ≡ take (l .count) (l .waiting)
   waiting-back = rw (back .0, back .1 .1) (take-append-seam (take (l .count) (l .waiting)) _)
@@ -78,23 +47,21 @@ module _ {regs pos ring form regs′ pos′ ring′ : List ℕ} (f : HasForm reg
       (subst (λ (waiting : List ℕ). Restores (a .regs) (a .pos) (a .ring) (a .saved) waiting regs′ pos′ ring′ (a .word)) waiting-back (a .restores))
 
   same : portOf regs′ pos′ ring′ ≡ portOf regs pos ring
-  same = restore-after-save (l .saves) in-size restores .1
+  same = restore-after-save (l .saves) (f .fits) restores .1
 
   -- Saved, written, read and restored into any memory: nothing is refused, and every run is the one of the port that was saved.
   pub moved : Same regs pos ring form regs′ pos′ ring′ a
   moved = record {
     read = back .0 ∙ ap length (l .saves .bytes);
-    restored = restore-after-save (l .saves) in-size restores .0;
-    registers = restores .restored (ap (λ (o : Restore). o .refused) (enough (l .saved) _ (portOf (a .regs) (a .pos) (a .ring)) (rw (sixty-four (l .saved) none-other) few))) .0 ∙ l .saves .registers;
+    restored = restore-after-save (l .saves) (f .fits) restores .0;
+    registers = restores .restored (ap (λ (o : Restore). o .refused) (enough (l .saved) _ (portOf (a .regs) (a .pos) (a .ring)) few)) .0 ∙ l .saves .registers;
     port = same;
     runs = λ os. ap (λ (p : Port). run p os) same;
   }
 
   -- A port that runs reach is one still, and the second host is told so.
-  pub told : Reachable 64 (portOf regs pos ring) → a .word / 0x4_0000 % 2 ≡ 1
-  told k =
-      let s = sixty-four regs (f .zero) in
-      saved-reachable (l .saves) in-size restores (rw s refl) (rw s k) (ap (take 6) (f .zero)) .0
+  pub told : isSize (sizeOf regs) ≡ true → Reachable (sizeOf regs) (portOf regs pos ring) → a .word / 0x4_0000 % 2 ≡ 1
+  told made k = saved-reachable (l .saves) (f .fits) restores made k (f .zero) .0
 
 -- ---- Both hosts play on, by one call
 
@@ -145,20 +112,15 @@ called-on f l a os here there =
       y .0 ∙ ap (λ (p : Port). run p os .port) same ∙ sym (x .0),
     )
 
--- What a call of `play` makes of a fresh port of 64 has a form: no more than 64 bytes wait, and the other registers, bytes as they are, stay 0.
-pub movable : {regs₀ pos₀ ring₀ ops inputs answers regs pos ring answers′ : List ℕ} {r : Bool} → MakesFresh 64 regs₀ pos₀
+-- What a call of `play` makes of a fresh port, of whatever size, has a form: no more bytes wait than its size, and the spare registers stay 0.
+pub movable : {size : ℕ} {regs₀ pos₀ ring₀ ops inputs answers regs pos ring answers′ : List ℕ} {r : Bool} → MakesFresh size regs₀ pos₀
     → Plays regs₀ pos₀ ring₀ ops inputs answers regs pos ring answers′ r
-    → (os : List Op) → decode ops inputs ≡ asks os → length os ≤ length answers → length regs ≡ 16 → getD regs 15 0 < 256
+    → (os : List Op) → decode ops inputs ≡ asks os → length os ≤ length answers → length regs ≡ 16
     → HasForm regs pos ring
-movable {regs₀} {pos₀} {ring₀} {regs = regs} {pos} {ring} made played os e room long byte =
-    let p = played .plays os e room .port in
-    let start = made .holds ring₀ in
-    let size : sizeOf regs ≡ 64 = size-told regs pos ring ∙ ap size-of p ∙ run-size (portOf regs₀ pos₀ ring₀) os ∙ ap size-of start in
-    let told = tells-64 (getD regs 15 0) byte size in
+movable {size} {regs₀} {pos₀} {ring₀} {regs = regs} {pos} {ring} made played os e room long =
+    let p = played .plays os e room .port ∙ ap (λ (q : Port). run q os .port) (made .holds ring₀) in
     record {
-      zero = in-two regs long ∙ rw (played .sparesKept .0 ∙ made .sparesZero, told) refl;
-      fits = rw (p, start) (never-more (fresh 64) os (omega arith));
+      long = long;
+      zero = played .sparesKept .0 ∙ made .sparesZero;
+      fits = rw (p, run-size (fresh size) os) (never-more (fresh size) os (omega arith));
     }
-  where
-    size-of : Port → ℕ
-    size-of q = q .size

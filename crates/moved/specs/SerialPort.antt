@@ -5,16 +5,17 @@ use mathlib.Core.Bool.{Bool, true}
 use mathlib.Core.List.{List}
 use lib.ListN.{length, take}
 use Rattle.common.specs.Answer.{refusedBit}
-use Rattle.serial.specs.Layout.{portOf, spareRegisters}
+use Rattle.serial.specs.Layout.{portOf, spareRegisters, freshSpareRegisters}
 use Rattle.runs.specs.Run.{Op, run}
 use Rattle.serial_saved.specs.Calls.{Saves, Restores}
-use Rattle.serial_form.specs.Form.{others, freshOthers, readForm}
+use Rattle.serial_form.specs.Form.{readForm}
 use Rattle.serial_form.specs.Calls.{Encodes, Decodes}
 
--- A port in which 64 bytes may wait, and no more do, and whose spare registers are 0.
+-- A port whose spare registers are 0, in which no more bytes wait than its size.
 pub record HasForm (regs pos ring : List ℕ) : Type 0 where
-  pub zero : others regs ≡ freshOthers
-  pub fits : length (portOf regs pos ring .waiting) ≤ 64
+  pub long : length regs ≡ 16
+  pub zero : spareRegisters regs ≡ freshSpareRegisters
+  pub fits : length (portOf regs pos ring .waiting) ≤ portOf regs pos ring .size
 
 -- The first host saves its port, whatever lay where it saves the waiting bytes to, and writes what it saved into memory with room for the
 -- form: so many bytes of that memory leave.
@@ -45,8 +46,8 @@ pub record Arrives (form regs′ pos′ ring′ : List ℕ) : Type 0 where
   pub word : ℕ
   pub restores : Restores regs pos ring saved (take count waiting) regs′ pos′ ring′ word
 
--- Nothing was refused, and the port there is the port here: all its registers, the spare ones too, and the bytes that wait. Every run of it
--- is the same.
+-- Nothing was refused, and the port there is the port here: all its registers, FCR, the size and the spare ones among them, and the bytes
+-- that wait. Every run of it is the same.
 pub record Same (regs pos ring form regs′ pos′ ring′ : List ℕ) (a : Arrives form regs′ pos′ ring′) : Type 0 where
   pub read : a .count ≡ length (portOf regs pos ring .waiting)
   pub restored : a .word / refusedBit % 2 ≡ 0

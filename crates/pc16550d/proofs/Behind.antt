@@ -28,7 +28,7 @@ use Rattle.pc16550d.specs.Behind.{tuned, Follows, holds, carefulWrite, c
 use Rattle.pc16550d.specs.Behind.{AlikeRun, linuxBoots}
 use Rattle.pc16550d.proofs.Agreement.{named, same-map, pin-is, Signal, calm, each-raised}
 use Rattle.pc16550d.proofs.Reading.{ReadAgrees, read-complete, loop-kept}
-use Rattle.pc16550d.proofs.Writing.{WriteAgrees}
+use Rattle.pc16550d.proofs.Writing.{WriteAgrees, fcr-written}
 use Rattle.pc16550d.proofs.Transmitting.{dataAfter, written, thr-next, same-sent}
 use Rattle.pc16550d.proofs.Enabling.{ier-write}
 use Rattle.pc16550d.proofs.OnLine.{InputAgrees, input-complete}
@@ -96,10 +96,15 @@ none-signalled false false h = refl
 not-again : (e n t : Bool) → (not n || (not e || t)) ≡ true → e ≡ true → n ≡ true → t ≡ false → ⊥
 not-again e n t h a b d = false≢true (rw (a, b, d) at h)
 
-none-emptied : (empties : Bool) (w : List ℕ) → eqb (length (cond empties [] w)) (length w) ≡ true → cond empties [] w ≡ w
-none-emptied false w h = refl
-none-emptied true [] h = refl
-none-emptied true (x ∷ xs) h = absurd (omega (arith, eqb-true 0 (length (x ∷ xs)) h))
+-- chip, device: it empties the receiver.
+same-left : (chip device : Bool) (w : List ℕ) → eqb (length (cond chip [] w)) (cond device 0 (length w)) ≡ true
+    → cond chip [] w ≡ cond device [] w
+same-left true true w h = refl
+same-left false false w h = refl
+same-left true false [] h = refl
+same-left true false (x ∷ xs) h = absurd (omega (arith, eqb-true 0 (length (x ∷ xs)) h))
+same-left false true [] h = refl
+same-left false true (x ∷ xs) h = absurd (omega (arith, eqb-true (length (x ∷ xs)) 0 h))
 
 -- Changes at four inputs are four bits.
 or-small : (a b : ℕ) → a < 0x10 → b < 0x10 → bitOr a b < 0x10
@@ -255,11 +260,17 @@ module _ (p : Port) (f : Bool) (t m : ℕ) (small : m < 0x10) (quiet : modemStat
   unfolding chipOf writeRegister chip.writeRegister writeFcr carefulWrite
   fcr-goes v e true b =
       let level = chip.triggerLevel v in
+      let ours = fcr-written p v _ refl in
       let waits : List ℕ → Chip = λ w. tuned true level m (chip.withReceiver (chipOf p) (holding (chipOf p .receiver) w false)) in
-      goes true level m (rw b (ap waits (none-emptied (on v 0x02 || not f) (p .waiting) (rw b at e)))) small quiet tt refl (calm (λ x. x))
+      goes true level m
+      (rw b (ap waits (same-left (on v 0x02 || not f) (on v 0x02) (p .waiting) (rw b at e))) ∙ ap (tuned true level m) (sym (ours .next)))
+      small quiet tt (ours .sent) (ours .signal)
   fcr-goes v e false b =
+      let ours = fcr-written p v _ refl in
       let waits : List ℕ → Chip = λ w. tuned false t m (chip.withReceiver (chipOf p) (holding (chipOf p .receiver) w false)) in
-      goes false t m (rw b (ap waits (none-emptied f (p .waiting) (rw b at e)))) small quiet tt refl (calm (λ x. x))
+      goes false t m
+      (rw b (ap waits (same-left f (on v 0x02) (p .waiting) (rw b at e))) ∙ ap (tuned false t m) (sym (ours .next)))
+      small quiet tt (ours .sent) (ours .signal)
 
   -- ---- MCR
   mcr-written : (v : ℕ) → Careful MCR v → WriteGoes MCR v
@@ -431,11 +442,13 @@ follows-first p = record { same = refl; four = lit< tt; quiet = refl }
 abbrev Differs : List Op → Type 0
 Differs os = AlikeRun begins (chipOf begins) os → ⊥
 
--- In this order: two bytes over the line and in the loop while the FIFOs are off, FCR with a byte waiting, IER 0x02 again, IER 0x08 after and
--- before a change at a modem input.
+-- In this order: two bytes over the line and in the loop while the FIFOs are off; with a byte waiting, the FIFOs turned off, 0x02 while they
+-- are off, and the FIFOs turned on; IER 0x02 again, IER 0x08 after and before a change at a modem input.
 pub each-needed : Differs (write 2 0x00 ∷ input (0x41 ∷ 0x42 ∷ []) ∷ read 0 ∷ [])
     × Differs (write 2 0x00 ∷ write 4 0x1b ∷ write 0 0x41 ∷ write 0 0x42 ∷ read 5 ∷ [])
-    × Differs (input (0x41 ∷ []) ∷ write 2 0x03 ∷ read 5 ∷ [])
+    × Differs (input (0x41 ∷ []) ∷ write 2 0x00 ∷ read 5 ∷ [])
+    × Differs (write 2 0x00 ∷ input (0x41 ∷ []) ∷ write 2 0x02 ∷ read 5 ∷ [])
+    × Differs (write 2 0x00 ∷ input (0x41 ∷ []) ∷ write 2 0x01 ∷ read 5 ∷ [])
     × Differs (write 1 0x02 ∷ read 2 ∷ write 1 0x02 ∷ [])
     × Differs (write 4 0x1a ∷ write 1 0x08 ∷ [])
     × Differs (write 1 0x08 ∷ write 4 0x1a ∷ [])
@@ -444,6 +457,8 @@ each-needed = (
   λ r. (let z : _≡_ {A = ℕ} 0x41 0x42 = r .1 .1 .0 .reply in omega arith),
   λ r. (let z : _≡_ {A = ℕ} 0x61 0x63 = r .1 .1 .1 .1 .0 .reply in omega arith),
   λ r. (let z : _≡_ {A = ℕ} 0x61 0x60 = r .1 .1 .0 .reply in omega arith),
+  λ r. (let z : _≡_ {A = ℕ} 0x60 0x61 = r .1 .1 .1 .0 .reply in omega arith),
+  λ r. (let z : _≡_ {A = ℕ} 0x61 0x60 = r .1 .1 .1 .0 .reply in omega arith),
   λ r. true≢false (r .1 .1 .0 .level),
   λ r. false≢true (r .1 .0 .level),
   λ r. false≢true (r .1 .0 .level),
@@ -469,3 +484,8 @@ linux-careful = refl
 
 pub linux-alike : AlikeRun begins (chipOf begins) linuxBoots
 linux-alike = behind begins begins-sound (chipOf begins) (follows-first begins) linuxBoots linux-careful
+
+-- Also where bytes were typed before: as it starts it empties the receiver, on both.
+pub linux-typed-before : AlikeRun begins (chipOf begins) (input (0x41 ∷ 0x42 ∷ []) ∷ linuxBoots)
+unfolding computing carefulWrite careful carefulRun
+linux-typed-before = behind begins begins-sound (chipOf begins) (follows-first begins) (input (0x41 ∷ 0x42 ∷ []) ∷ linuxBoots) refl

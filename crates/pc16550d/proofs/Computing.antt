@@ -10,5 +10,5 @@ use Rattle.pc16550d.specs.Chip as chip
 use Rattle.pc16550d.specs.Compare.{deviceDoes, chipOf}
 
 unfoldable pub computing : Unit {0}
-unfolding ierStored isHigh code settled lsrReady lsrAfterRead isLoop msrRead addressed readRegister receives device.writeIer writeLine writeLoop writeRegister inputOf registerAt masterReset pin chip.code afterIir writeIer loads transmits arrives arriveAll triggerLevel writeFcr inputs changed writeMcr chip.readRegister writeThr chip.writeRegister fromLine chipDoes rising deviceDoes chipOf
+unfolding ierStored isHigh code settled lsrReady lsrAfterRead isLoop msrRead addressed readRegister receives device.writeIer device.writeFcr writeLine writeLoop writeRegister inputOf registerAt masterReset pin chip.code afterIir writeIer loads transmits arrives arriveAll triggerLevel writeFcr inputs changed writeMcr chip.readRegister writeThr chip.writeRegister fromLine chipDoes rising deviceDoes chipOf
 computing = tt

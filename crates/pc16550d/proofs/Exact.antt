@@ -20,7 +20,7 @@ write-complete : (p : Port) → Sound p → (r : Register) (v : ℕ) → WriteAg
 unfolding chipOf writeRegister chip.writeRegister
 write-complete p k RBR-THR v = thr-write p v k _ refl (decLt (length (p .waiting)) 16)
 write-complete p k IER v = ier-write p v
-write-complete p k IIR-FCR v = fcr-write p v _ _ refl refl (ℕ-discrete (triggerLevel v) 1) _ refl
+write-complete p k IIR-FCR v = fcr-write p v _ _ refl refl (ℕ-discrete (triggerLevel v) 1)
 write-complete p k LCR v = inl (quietly p tt refl refl)
 write-complete p k MCR v = mcr-write p v (ℕ-discrete (writeMcr (chipOf p .modem) v .changes) 0)
 write-complete p k LSR v = inl (quietly p tt refl refl)

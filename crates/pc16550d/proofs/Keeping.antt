@@ -7,10 +7,11 @@ use native.Mathlib.Omega.{arith}
 use lib.ListN.{length, take}
 use lib.Dec.{eqb}
 use borrow.Author.Tests.{eqb-false, ltb-true}
+use Rattle.common.specs.Bits.{on}
 use Rattle.common.specs.Lists.{some}
 use Rattle.line_status.specs.LineStatus.{lsrReady, lsrAfterRead}
 use Rattle.serial.specs.Port.{Port, Settings, Register, Out, Input, withSettings, withReceiver, addressed, isOpen, inLoop, fresh, emptied}
-use Rattle.serial.specs.Port.{readRegister, writeRegister, writeLine, writeLoop, writeIer, hasRoom, roomOf, receives, inputOf, RBR-THR, IER}
+use Rattle.serial.specs.Port.{readRegister, writeRegister, writeLine, writeLoop, writeIer, writeFcr, hasRoom, roomOf, receives, inputOf, RBR-THR, IER}
 use Rattle.serial.specs.Port.{IIR-FCR, LCR, MCR, LSR, MSR, SCR, DLL, DLM, reserved}
 use Rattle.pc16550d.specs.Chip.{Op, read, write, input}
 use Rattle.pc16550d.specs.Compare.{deviceDoes, Sound}
@@ -28,6 +29,11 @@ ready : (w : Bool) (lsr : ℕ) → lsr ≡ cond w 0x61 0x60 → lsrReady lsr ≡
 unfolding lsrReady
 ready true lsr e = rw e
 ready false lsr e = rw e
+
+none-ready : (w : Bool) (lsr : ℕ) → lsr ≡ cond w 0x61 0x60 → lsrAfterRead false lsr ≡ 0x60
+unfolding lsrAfterRead
+none-ready true lsr e = rw e
+none-ready false lsr e = rw e
 
 one-less : (waiting : List ℕ) (lsr : ℕ) → lsr ≡ cond (some waiting) 0x61 0x60
     → lsrAfterRead (some (tail waiting)) lsr ≡ cond (some (tail waiting)) 0x61 0x60
@@ -61,7 +67,7 @@ either P true f g = f refl
 either P false f g = g refl
 
 write-keeps : (p : Port) → Sound p → (r : Register) (v : ℕ) → Sound (writeRegister p r v .port)
-unfolding writeRegister writeLine writeLoop writeIer
+unfolding writeRegister writeLine writeLoop writeIer writeFcr
 write-keeps p k RBR-THR v =
     let S : Out → Type 0 = λ o. Sound (o .port) in
     let e : Sound (emptied p) = same-sound p k in
@@ -69,7 +75,11 @@ write-keeps p k RBR-THR v =
     (λ l. either S (hasRoom p) (λ h. receives-keeps (emptied p) (v ∷ []) e (some-more (p .waiting) v [])) (λ h. e))
     (λ l. e)
 write-keeps p k IER v = same-sound p k
-write-keeps p k IIR-FCR v = k
+write-keeps p k IIR-FCR v =
+    let S : Out → Type 0 = λ o. Sound (o .port) in
+    either S (on v 0x02)
+    (λ e. record { lsr = none-ready (some (p .waiting)) (p .lsr) (k .lsr); msr = k .msr; size = k .size })
+    (λ e. same-sound p k)
 write-keeps p k LCR v = same-sound p k
 write-keeps p k MCR v = same-sound p k
 write-keeps p k LSR v = k

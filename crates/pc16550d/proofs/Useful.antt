@@ -4,7 +4,7 @@ use Rattle.sidebyside.specs.Runs.{RowFree}
 use Rattle.pc16550d.specs.Compare.{pair}
 use Rattle.pc16550d.specs.Runs.{begins}
 use Rattle.pc16550d.specs.Drivers.{linuxReceives, linuxLeavesBytes, linuxPrints, linuxPrintsTypedAt, linuxPrintsSending, looksTwice}
-use Rattle.pc16550d.specs.Drivers.{bothKinds, disablesAndEnables, seabiosDetects, loaderPolls, loopTest}
+use Rattle.pc16550d.specs.Drivers.{bothKinds, disablesAndEnables, seabiosDetects, loaderPolls, emptiesAtStart, loopTest}
 use Rattle.pc16550d.proofs.Computing.{computing}
 use Rattle.pc16550d.proofs.RunTest.{testing, passes}
 
@@ -54,6 +54,11 @@ seabios-detects = passes seabiosDetects refl
 pub loader-polls : RowFree pair begins loaderPolls
 unfolding computing testing
 loader-polls = passes loaderPolls refl
+
+-- A driver empties the FIFOs without meeting a row.
+pub empties-at-start : RowFree pair begins emptiesAtStart
+unfolding computing testing
+empties-at-start = passes emptiesAtStart refl
 
 -- A test in the loop meets no row.
 pub loop-test : RowFree pair begins loopTest

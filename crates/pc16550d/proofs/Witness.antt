@@ -49,9 +49,18 @@ pub shows-serial-fifo-off : Shown pair begins [] (write 2 0x00) (read 2 ∷ []) 
 unfolding computing
 shows-serial-fifo-off = record { row = serial-fifo-off refl; device = refl; manual = refl }
 
-pub shows-serial-fifo-empty : Shown pair begins (input (0x41 ∷ []) ∷ []) (write 2 0x03) (read 5 ∷ []) 0x61 0x60
+pub shows-serial-fifo-empty : Shown pair begins (input (0x41 ∷ []) ∷ []) (write 2 0x00) (read 5 ∷ []) 0x61 0x60
 unfolding computing
-shows-serial-fifo-empty = record { row = serial-fifo-empty refl refl refl; device = refl; manual = refl }
+shows-serial-fifo-empty = record { row = serial-fifo-empty refl; device = refl; manual = refl }
+
+-- Behind the row of the FIFOs, which are off: 0x02 without 0x01 empties the device alone, and to turn them on empties the chip alone.
+pub shows-emptied-without-fifos : Shown pair begins [] (write 2 0x00) (input (0x41 ∷ []) ∷ write 2 0x02 ∷ read 5 ∷ []) 0x60 0x61
+unfolding computing
+shows-emptied-without-fifos = record { row = serial-fifo-off refl; device = refl; manual = refl }
+
+pub shows-emptied-by-turning-on : Shown pair begins [] (write 2 0x00) (input (0x41 ∷ []) ∷ write 2 0x01 ∷ read 5 ∷ []) 0x61 0x60
+unfolding computing
+shows-emptied-by-turning-on = record { row = serial-fifo-off refl; device = refl; manual = refl }
 
 pub shows-serial-trigger-level : Shown pair begins [] (write 2 0x41) (write 1 0x01 ∷ input (0x41 ∷ []) ∷ read 2 ∷ []) 0xc4 0xcc
 unfolding computing

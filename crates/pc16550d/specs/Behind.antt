@@ -3,7 +3,7 @@
 use Prim.Native.Nat.{ℕ, _+_, _/_, _%_, _<_}
 use mathlib.Core.Path.{_≡_}
 use mathlib.Core.List.{List, [], _∷_, _++_}
-use mathlib.Core.Bool.{Bool, true, false, not, _&&_, _||_}
+use mathlib.Core.Bool.{Bool, true, false, cond, not, _&&_, _||_}
 use lib.ListN.{length}
 use lib.Bits.{bitAnd}
 use lib.Dec.{eqb, ltb}
@@ -48,8 +48,9 @@ carefulWrite c RBR-THR v = not (inLoop c) || holds c 1
 carefulWrite c IER v =
     let ier = bitAnd v 0x0f in
     (not (on ier 0x02) || (not (enabled c 0x02) || c .interrupts .thre)) && (not (on ier 0x08) || eqb (c .modem .changes) 0)
--- FCR empties the receiver, which turning the FIFOs on or off does too, only where no byte waits.
-carefulWrite c IIR-FCR v = eqb (length (writeFcr (c .receiver) v .waiting)) (length (c .receiver .waiting))
+-- FCR empties the receiver by 0x02 and not otherwise, or no byte waits: the FIFOs are turned on or off only together with 0x02, and while
+-- they stay off 0x02 is not written.
+carefulWrite c IIR-FCR v = eqb (length (writeFcr (c .receiver) v .waiting)) (cond (on v 0x02) 0 (length (c .receiver .waiting)))
 -- While IER 0x08 is 1, no modem input is changed by way of the loop.
 carefulWrite c MCR v = not (enabled c 0x08) || eqb (writeMcr (c .modem) v .changes) 0
 -- All else is free.

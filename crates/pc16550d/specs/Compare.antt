@@ -2,7 +2,7 @@
 use Prim.Native.Nat.{ℕ, _+_, _/_, _%_, _≤_, _<_}
 use mathlib.Core.Path.{_≡_}
 use mathlib.Core.List.{List, []}
-use mathlib.Core.Bool.{Bool, true, false, cond, _&&_}
+use mathlib.Core.Bool.{Bool, true, false, cond, not, _&&_}
 use lib.ListN.{length}
 use Rattle.common.specs.Bits.{on}
 use Rattle.common.specs.Lists.{some}
@@ -39,8 +39,8 @@ deviceDoes p (input bytes) = fed (inputOf p bytes)
 abbrev pub enables : Port → Kind → Bool
 enables p kind = isEnabled (p .settings .ier) kind
 
--- The FIFOs are on, at trigger level 1; no byte was lost; nothing changed at the modem's inputs. The transmitter's interrupt is pending
--- where it is active: on the chip it never is while IER 0x02 is 0.
+-- The FIFOs are on, at trigger level 1, whatever the port remembers of FCR; no byte was lost; nothing changed at the modem's inputs. The
+-- transmitter's interrupt is pending where it is active: on the chip it never is while IER 0x02 is 0.
 unfoldable pub chipOf : Port → Chip
 chipOf p = record {
   line = record { lcr = p .settings .lcr; dll = p .settings .dll; dlm = p .settings .dlm };
@@ -92,6 +92,10 @@ accessOf p (read offset) = reads (addressed (isOpen p) offset)
 accessOf p (write offset value) = writes (addressed (isOpen p) offset) value
 accessOf p (input bytes) = receives bytes
 
+-- FCR is written without 0x01, which turns the chip's FIFOs off, and without 0x02, while bytes wait.
+abbrev pub offWithBytes : Port → ℕ → Bool
+offWithBytes p v = not (on v 0x01) && not (on v 0x02) && some (p .waiting)
+
 pub data Row (p : Port) : Access → Type 0 where
   -- MCR is read and shows one of its three high bits, which on the chip are always 0.
   serial-wide-mcr : 0x20 ≤ p .settings .mcr → Row p (reads MCR)
@@ -110,8 +114,8 @@ pub data Row (p : Port) : Access → Type 0 where
       → active p transmitterEmpty ≡ false → Row p (writes IER v)
   -- FCR is written with 0x01 off: the chip turns its FIFOs off.
   serial-fifo-off : {v : ℕ} → on v 0x01 ≡ false → Row p (writes IIR-FCR v)
-  -- FCR is written with 0x02: the chip loses the bytes that wait.
-  serial-fifo-empty : {v : ℕ} → on v 0x01 ≡ true → on v 0x02 ≡ true → some (p .waiting) ≡ true → Row p (writes IIR-FCR v)
+  -- Of these, where 0x02 is off too and bytes wait: the chip loses them, as its FIFOs are turned off; the device keeps them.
+  serial-fifo-empty : {v : ℕ} → offWithBytes p v ≡ true → Row p (writes IIR-FCR v)
   -- FCR is written with a trigger level above 1: below it the chip identifies received data as the time-out.
   serial-trigger-level : {v : ℕ} → on v 0x01 ≡ true → (chip.triggerLevel v ≡ 1 → ⊥) → Row p (writes IIR-FCR v)
   -- MCR is written, and by way of the loop a modem input changes: the chip keeps the change in MSR's low half, and signals it.

@@ -60,6 +60,11 @@ loaderPolls =
     write 1 0x00 ∷ write 3 0x83 ∷ write 0 0x01 ∷ write 1 0x00 ∷ write 3 0x03 ∷ write 2 0x01 ∷ write 4 0x03
     ∷ read 5 ∷ write 0 0x3e ∷ read 5 ∷ input (0x79 ∷ []) ∷ read 5 ∷ read 0 ∷ read 5 ∷ []
 
+-- A driver empties the FIFOs as it starts: what was typed before is gone, and received data with it.
+abbrev pub emptiesAtStart : List Op
+emptiesAtStart =
+    write 1 0x01 ∷ input (0x41 ∷ 0x42 ∷ []) ∷ write 2 0x07 ∷ read 5 ∷ read 2 ∷ input (0x43 ∷ []) ∷ read 2 ∷ read 0 ∷ read 5 ∷ []
+
 -- A test in the loop, with DTR, RTS and OUT2 on: what is written comes back, and both kinds are signalled.
 abbrev pub loopTest : List Op
 loopTest =

@@ -6,6 +6,7 @@ use mathlib.Core.List.{List, [], _∷_, _++_}
 use Prim.Native.Nat.{ℕ, _+_, _%_, _<_}
 use native.Mathlib.Omega.{arith}
 use lib.Bits.{bitOr}
+use lib.ListN.{length}
 use Rattle.common.specs.Bytes.{Bytes}
 use Rattle.common.specs.Lists.{some, firstOr0}
 use Rattle.interrupts.specs.Interrupts.{receivedData, transmitterEmpty, nonePending, isActive, code, identification}
@@ -17,9 +18,10 @@ use Rattle.runs.specs.Run.{Op, read, write, input, room, didInput, step, run}
 use Rattle.runs.specs.Reachable.{Reachable}
 use Rattle.runs.specs.Reached.{OfBytes, AllOfBytes}
 use Rattle.runs.proofs.Effects.{input-cases}
+use Rattle.runs.proofs.Telling.{few-discarded}
 use Rattle.runs.proofs.Reachable.{fresh-reachable, step-reachable}
 use Rattle.play.specs.Play.{words}
-use Rattle.play.specs.Accounted.{allAcceptedBy, allDeliveredBy, Fits, AllFit}
+use Rattle.play.specs.Accounted.{allAcceptedBy, GoneBy, Fits, AllFit}
 use Rattle.play.proofs.Accounted.{words-conserve}
 
 -- ---- Replies are bytes
@@ -73,6 +75,9 @@ module _ {size : ℕ} (few : size < 0x1_0000) (p : Port) (k : Reachable size p) 
       go (inl e) = rw e (omega arith)
       go (inr e) = rw e h
 
+  few-thrown : (offset value : ℕ) → length (writeOf p offset value .events .discarded) < 0x1_0000
+  few-thrown offset value = omega (arith, few-discarded p offset value, k .fits)
+
   none-fit : (full : Bool) → Fits (didInput (takesNone p full) .answer)
   none-fit true = tt
   none-fit false = omega arith
@@ -83,7 +88,7 @@ module _ {size : ℕ} (few : size < 0x1_0000) (p : Port) (k : Reachable size p) 
   fits : (o : Op) → OfBytes o → Fits (step p o .answer)
   unfolding step
   fits (read offset) h = reply-byte (addressed (isOpen p) offset)
-  fits (write offset value) h = sent-byte offset value (h .1)
+  fits (write offset value) h = (sent-byte offset value (h .1), few-thrown offset value)
   fits (input bytes) h = input-fits bytes
   fits room h = omega (arith, k .sized)
 
@@ -94,7 +99,7 @@ all-fit size few p k (o ∷ os) h =
     (fits few p k o (h .0), all-fit size few (step p o .port) (step-reachable size p o (h .0) k) os (h .1))
 
 -- From a fresh port, of a size that a word has room for, and over every run of bytes: all that the words say was accepted is all that they
--- say was delivered and then what waits.
+-- say was delivered or thrown away, and then what waits.
 pub fresh-words-conserve : (size : ℕ) → size < 0x1_0000 → (os : List Op) → AllOfBytes os → let r = run (fresh size) os in
-    allAcceptedBy os (words (r .answers)) ≡ allDeliveredBy (words (r .answers)) ++ r .port .waiting
+    (gone : List ℕ) × (GoneBy (words (r .answers)) gone × (allAcceptedBy os (words (r .answers)) ≡ gone ++ r .port .waiting))
 fresh-words-conserve size few os h = words-conserve (fresh size) os (all-fit size few (fresh size) (fresh-reachable size) os h)

@@ -1,10 +1,11 @@
--- Which bytes were accepted and which delivered, as the words themselves say it.
+-- Which bytes were accepted and which left again, as the words themselves say it.
 use Prim.Native.Nat.{ℕ, _/_, _%_, _<_}
+use mathlib.Core.Path.{_≡_}
 use mathlib.Core.Bool.{cond}
 use mathlib.Core.List.{List, [], _∷_, _++_}
 use lib.Dec.{eqb}
-use lib.ListN.{take}
-use Rattle.common.specs.Answer.{deliveredBit, loopedBit}
+use lib.ListN.{length, take}
+use Rattle.common.specs.Answer.{deliveredBit, loopedBit, flushedBit}
 use Rattle.common.specs.Lists.{firstOr0}
 use Rattle.runs.specs.Run.{Op, read, write, input, room, Answer, replied, sent, took, full, hasRoom}
 
@@ -19,19 +20,26 @@ acceptedBy room word = []
 unfoldable pub deliveredBy : ℕ → List ℕ
 deliveredBy word = cond (eqb (word / deliveredBit % 2) 1) (word % 256 ∷ []) []
 
+-- How many bytes were thrown away: the number, where the bit of a flush is 1.
+unfoldable pub discardedBy : ℕ → ℕ
+discardedBy word = cond (eqb (word / flushedBit % 2) 1) (word % 0x1_0000) 0
+
 abbrev pub allAcceptedBy : List Op → List ℕ → List ℕ
 allAcceptedBy [] words = []
 allAcceptedBy (o ∷ os) [] = []
 allAcceptedBy (o ∷ os) (w ∷ words) = acceptedBy o w ++ allAcceptedBy os words
 
-abbrev pub allDeliveredBy : List ℕ → List ℕ
-allDeliveredBy [] = []
-allDeliveredBy (w ∷ words) = deliveredBy w ++ allDeliveredBy words
+-- These bytes left, by the words: those that were delivered, and as many as were thrown away.
+abbrev pub GoneBy : List ℕ → List ℕ → Type 0
+GoneBy [] gone = gone ≡ []
+GoneBy (w ∷ words) gone =
+    (thrown : List ℕ) × ((rest : List ℕ)
+    × ((length thrown ≡ discardedBy w) × ((gone ≡ (deliveredBy w ++ thrown) ++ rest) × GoneBy words rest)))
 
--- The numbers in answers have their places in a word: a reply and a byte sent have 8 bits, bytes taken and the room 16.
+-- The numbers in answers have their places in a word: a reply and a byte sent have 8 bits, bytes taken, thrown away and the room 16.
 abbrev pub Fits : Answer → Type 0
 Fits (replied v e n) = v < 256
-Fits (sent s e n) = firstOr0 s < 256
+Fits (sent s e n) = (firstOr0 s < 256) × (length (e .discarded) < 0x1_0000)
 Fits (took t n) = t < 0x1_0000
 Fits (full n) = Unit {0}
 Fits (hasRoom r) = r < 0x1_0000

@@ -86,7 +86,7 @@ pub record WrittenAs (os : List Op) (ops inputs : List ℕ) : Type 0 where
 -- The word that the call by itself answers: the reply, the byte sent, what else happened, the bytes taken, "full", the raises; the room.
 abbrev pub word : Answer → ℕ
 word (replied v e n) = v + tells e n
-word (sent s e n) = sentWord s + tells e n
+word (sent s e n) = sentWord s + length (e .discarded) + tells e n
 word (took t n) = t + oneRaise * n
 word (full n) = refusedBit + oneRaise * n
 word (hasRoom r) = r

@@ -7,8 +7,8 @@ use native.Mathlib.Omega.{arith}
 use lib.ListN.{length, take, length-append}
 use Rattle.serial.specs.Port.{Port, fresh}
 use Rattle.runs.specs.Run.{Op, room, hasRoom, step, run}
-use Rattle.runs.specs.Accepted.{accepted, delivered, allAccepted, allDelivered}
-use Rattle.runs.proofs.Effects.{Effect, keeps, comes, reads, effect}
+use Rattle.runs.specs.Accepted.{accepted, gone, allAccepted, allGone}
+use Rattle.runs.proofs.Effects.{Effect, keeps, comes, reads, empties, effect}
 
 -- ---- One operation
 
@@ -16,24 +16,26 @@ first-tail : (q : List ℕ) → q ++ [] ≡ take 1 q ++ tail q
 first-tail [] = refl
 first-tail (x ∷ q) = ap (λ (l : List ℕ). x ∷ l) (append-nil q)
 
--- what waited and what is accepted is what is delivered and what waits then
+-- what waited and what is accepted is what left and what waits then
 pub moves : {p q : Port} {a d : List ℕ} {t : Bool} → Effect p q a t d → p .waiting ++ a ≡ d ++ q .waiting
 moves (keeps s m) = append-nil _
 moves (comes bytes i s h) = refl
 moves {p} reads = first-tail (p .waiting)
+moves {p} (empties s i) = refl
 
 -- the size stays
 pub same-size : {p q : Port} {a d : List ℕ} {t : Bool} → Effect p q a t d → q .size ≡ p .size
 same-size (keeps s m) = refl
 same-size (comes bytes i s h) = refl
 same-size reads = refl
+same-size (empties s i) = refl
 
 -- ---- Every run
 
--- Nothing lost, nothing made up, order kept: from any port, what waited and then all that was accepted is all that was delivered and then
--- what waits.
+-- Nothing lost, nothing made up, order kept: from any port, what waited and then all that was accepted is all that was delivered or thrown
+-- away by the guest, and then what waits.
 pub conserved : (p : Port) (os : List Op) → let r = run p os in
-    p .waiting ++ allAccepted os (r .answers) ≡ allDelivered (r .answers) ++ r .port .waiting
+    p .waiting ++ allAccepted os (r .answers) ≡ allGone (r .answers) ++ r .port .waiting
 unfolding run
 conserved p [] = append-nil (p .waiting)
 conserved p (o ∷ os) =
@@ -41,18 +43,18 @@ conserved p (o ∷ os) =
     let more = run (d .port) os .answers in
     sym (append-assoc (p .waiting) (accepted o (d .answer)) (allAccepted os more))
     ∙ ap (λ (l : List ℕ). l ++ allAccepted os more) (moves (effect p o))
-    ∙ append-assoc (delivered (d .answer)) (d .port .waiting) (allAccepted os more)
-    ∙ ap (λ (l : List ℕ). delivered (d .answer) ++ l) (conserved (d .port) os)
-    ∙ sym (append-assoc (delivered (d .answer)) (allDelivered more) (run (d .port) os .port .waiting))
+    ∙ append-assoc (gone (d .answer)) (d .port .waiting) (allAccepted os more)
+    ∙ ap (λ (l : List ℕ). gone (d .answer) ++ l) (conserved (d .port) os)
+    ∙ sym (append-assoc (gone (d .answer)) (allGone more) (run (d .port) os .port .waiting))
 
--- From a fresh port: all that was accepted is all that was delivered and then what waits.
+-- From a fresh port: all that was accepted is all that was delivered or thrown away, and then what waits.
 pub fresh-conserved : (size : ℕ) (os : List Op) → let r = run (fresh size) os in
-    allAccepted os (r .answers) ≡ allDelivered (r .answers) ++ r .port .waiting
+    allAccepted os (r .answers) ≡ allGone (r .answers) ++ r .port .waiting
 fresh-conserved size os = conserved (fresh size) os
 
 -- So the answers tell how many wait, and what asking for room will answer.
 pub fresh-count : (size : ℕ) (os : List Op) → let r = run (fresh size) os in
-    length (r .port .waiting) ≡ length (allAccepted os (r .answers)) - length (allDelivered (r .answers))
+    length (r .port .waiting) ≡ length (allAccepted os (r .answers)) - length (allGone (r .answers))
 fresh-count size os = let h = simp length-append at (ap length (fresh-conserved size os)) in omega arith
 
 pub room-answers : (p : Port) → step p room .answer ≡ hasRoom (p .size - length (p .waiting))
@@ -69,6 +71,7 @@ bounded-step : {p q : Port} {a d : List ℕ} {t : Bool} → Effect p q a t d →
 bounded-step (keeps s m) = omega arith
 bounded-step {p} (comes bytes i s h) = omega (arith, length-append (p .waiting) bytes)
 bounded-step {p} reads = omega (arith, tail-short (p .waiting))
+bounded-step (empties s i) = omega arith
 
 -- From any port: never more wait than waited at the start or than the port has room for.
 pub bounded : (p : Port) (os : List Op) → length (run p os .port .waiting) ≤ max (length (p .waiting)) (p .size)

@@ -1,22 +1,23 @@
--- What an operation can do to a port is one of three things. Each theorem over runs goes by these cases and by induction.
+-- What an operation can do to a port is one of four things. Each theorem over runs goes by these cases and by induction.
 use mathlib.Core.Path.{_≡_, refl}
-use mathlib.Core.Bool.{Bool, true, false, cond, not}
+use mathlib.Core.Bool.{Bool, true, false, cond, not, _||_}
 use mathlib.Core.List.{List, [], _∷_, _++_, tail}
 use Prim.Native.Nat.{ℕ, zero, suc, _+_, _≤_, min}
 use native.Mathlib.Omega.{arith}
 use lib.ListN.{length, take, length-take}
 use lib.Dec.{eqb}
 use borrow.Author.Tests.{eqb-false, ltb-true}
+use Rattle.common.specs.Bits.{on}
 use Rattle.common.specs.Lists.{some, firstOr0}
-use Rattle.line_status.specs.LineStatus.{lsrReady}
+use Rattle.line_status.specs.LineStatus.{lsrReady, lsrAfterRead}
 use Rattle.serial.specs.Port.{Register, RBR-THR, IER, IIR-FCR, LCR, MCR, LSR, MSR, SCR, DLL, DLM, reserved, addressed, Settings, Port}
 use Rattle.serial.specs.Port.{isOpen, inLoop, withSettings, withReceiver, Out, replies, becomes, readRbr, readIir, readRegister}
-use Rattle.serial.specs.Port.{receives, hasRoom, transmits, emptied, writeIer, writeLine, loopEvents, writeLoop, writeRegister, Input, roomOf}
-use Rattle.serial.specs.Port.{takesNone, takesSome, inputOf}
-use Rattle.runs.specs.Run.{Op, read, write, input, room, didInput, step, run}
-use Rattle.runs.specs.Accepted.{accepted, delivered, taken, eventsOf}
+use Rattle.serial.specs.Port.{receives, hasRoom, transmits, emptied, writeIer, writeLine, loopEvents, writeLoop, putFcr, fcrStored, flushes, writeFcr, writeRegister}
+use Rattle.serial.specs.Port.{Input, roomOf, takesNone, takesSome, inputOf}
+use Rattle.runs.specs.Run.{Op, Answer, read, write, input, room, didInput, step, run}
+use Rattle.runs.specs.Accepted.{accepted, delivered, gone, taken, eventsOf}
 
--- ---- The three: the port after it, the bytes accepted, whether a read leaves none, the bytes delivered. What is stored in IIR, and raised,
+-- ---- The four: the port after it, the bytes accepted, whether none is left by a read or by FCR, the bytes that left. What is stored in IIR, and raised,
 -- is another matter: `Raising`.
 
 -- other settings: no byte moves and the line status stays
@@ -28,6 +29,8 @@ pub data Effect (p : Port) : Port → List ℕ → Bool → List ℕ → Type 0 
   comes : (bytes : List ℕ) (iir : ℕ) → some bytes ≡ true → length (p .waiting) + length bytes ≤ p .size
       → Effect p (withReceiver p iir (lsrReady (p .lsr)) (p .waiting ++ bytes)) bytes false []
   reads : Effect p (readRbr p .port) [] (not (some (tail (p .waiting)))) (take 1 (p .waiting))
+  empties : (s : Settings) (iir : ℕ)
+      → Effect p (withReceiver (withSettings p s) iir (lsrAfterRead false (p .lsr)) []) [] true (p .waiting)
 
 -- ---- Reads
 
@@ -59,9 +62,10 @@ dropped p = record { port = emptied p; reply = 0; sent = []; events = loopEvents
 
 pub write-cases : (P : Out → Type 0) (p : Port) (v : ℕ) → (hasRoom p ≡ true → P (returned p v)) → P (dropped p) → P (writeLine p v)
     → P (writeIer p v) → ((s : Settings) → s .ier ≡ p .settings .ier → P (becomes (withSettings p s)))
+    → ((s : Settings) → s .ier ≡ p .settings .ier → P (flushes (withSettings p s)))
     → (r : Register) → P (writeRegister p r v)
-unfolding writeRegister writeLoop
-write-cases P p v a b c d e RBR-THR = go (inLoop p) (hasRoom p) refl
+unfolding writeRegister writeLoop writeFcr
+write-cases P p v a b c d e f RBR-THR = go (inLoop p) (hasRoom p) refl
   where
     go : (l h : Bool) → hasRoom p ≡ h
         → let o = cond h (receives (emptied p) (v ∷ [])) (becomes (emptied p)) in
@@ -69,16 +73,20 @@ write-cases P p v a b c d e RBR-THR = go (inLoop p) (hasRoom p) refl
     go true true k = a k
     go true false k = b
     go false h k = c
-write-cases P p v a b c d e IER = d
-write-cases P p v a b c d e IIR-FCR = e (p .settings) refl
-write-cases P p v a b c d e LCR = e _ refl
-write-cases P p v a b c d e MCR = e _ refl
-write-cases P p v a b c d e LSR = e (p .settings) refl
-write-cases P p v a b c d e MSR = e (p .settings) refl
-write-cases P p v a b c d e SCR = e _ refl
-write-cases P p v a b c d e DLL = e _ refl
-write-cases P p v a b c d e DLM = e _ refl
-write-cases P p v a b c d e reserved = e (p .settings) refl
+write-cases P p v a b c d e f IER = d
+write-cases P p v a b c d e f IIR-FCR = go (on v 0x02)
+  where
+    go : (t : Bool) → let kept = withSettings p (putFcr (p .settings) (fcrStored v)) in P (cond t (flushes kept) (becomes kept))
+    go true = f _ refl
+    go false = e _ refl
+write-cases P p v a b c d e f LCR = e _ refl
+write-cases P p v a b c d e f MCR = e _ refl
+write-cases P p v a b c d e f LSR = e (p .settings) refl
+write-cases P p v a b c d e f MSR = e (p .settings) refl
+write-cases P p v a b c d e f SCR = e _ refl
+write-cases P p v a b c d e f DLL = e _ refl
+write-cases P p v a b c d e f DLM = e _ refl
+write-cases P p v a b c d e f reserved = e (p .settings) refl
 
 -- ---- Input
 
@@ -109,10 +117,21 @@ input-cases P p bytes a b = go (inLoop p) (eqb (length bytes) 0) (hasRoom p) ref
 
 -- ---- Every operation
 
+abbrev noneLeftBy : Answer → Bool
+noneLeftBy a = eventsOf a .noneLeft || eventsOf a .flushed
+
 -- what a read of RBR delivers is the first byte that waits
-first-said : (q : List ℕ) → cond (some q) (firstOr0 q ∷ []) [] ≡ take 1 q
+first-said : (q : List ℕ) → cond (some q) (firstOr0 q ∷ []) [] ++ [] ≡ take 1 q
 first-said [] = refl
 first-said (x ∷ q) = refl
+
+left-by-read : (t : Bool) → (t || false) ≡ t
+left-by-read true = refl
+left-by-read false = refl
+
+read-off : (p : Port) → let e = readRbr p .events in
+    Effect p (readRbr p .port) [] (e .noneLeft || e .flushed) (cond (e .delivered) (firstOr0 (p .waiting) ∷ []) [] ++ e .discarded)
+read-off p = rw (first-said (p .waiting), left-by-read (not (some (tail (p .waiting))))) reads
 
 received : (p : Port) (bytes : List ℕ) → some bytes ≡ true → length (p .waiting) + length bytes ≤ p .size
     → Effect p (receives p bytes .port) bytes false []
@@ -121,7 +140,9 @@ received p bytes = comes bytes _
 
 -- what a write of v does, as its answer tells
 abbrev Wrote : Port → ℕ → Out → Type 0
-Wrote p v o = Effect p (o .port) (cond (o .events .looped) (v ∷ []) []) (o .events .noneLeft) (cond (o .events .delivered) (0 ∷ []) [])
+Wrote p v o =
+    Effect p (o .port) (cond (o .events .looped) (v ∷ []) []) (o .events .noneLeft || o .events .flushed)
+    (cond (o .events .delivered) (0 ∷ []) [] ++ o .events .discarded)
 
 looped : (p : Port) (v : ℕ) → hasRoom p ≡ true → Wrote p v (returned p v)
 unfolding receives
@@ -136,22 +157,22 @@ unfolding writeIer
 enabled p v = keeps _ _
 
 not-taken : (p : Port) (bytes : List ℕ) (f : Bool)
-    → let a = didInput (takesNone p f) .answer in Effect p p (take (taken a) bytes) (eventsOf a .noneLeft) (delivered a)
-unfolding delivered
+    → let a = didInput (takesNone p f) .answer in Effect p p (take (taken a) bytes) (noneLeftBy a) (gone a)
+unfolding delivered gone
 not-taken p bytes true = keeps (p .settings) (p .iir)
 not-taken p bytes false = keeps (p .settings) (p .iir)
 
 pub effect : (p : Port) (o : Op)
-    → let a = step p o .answer in Effect p (step p o .port) (accepted o a) (eventsOf a .noneLeft) (delivered a)
-unfolding step accepted delivered
+    → let a = step p o .answer in Effect p (step p o .port) (accepted o a) (noneLeftBy a) (gone a)
+unfolding step accepted delivered gone
 effect p (read offset) =
-    let P : Out → Type 0 = λ o. Effect p (o .port) [] (o .events .noneLeft) (cond (o .events .delivered) (o .reply ∷ []) []) in
-    read-cases P p (rw first-said reads) (keeps (p .settings) _) (λ v. keeps (p .settings) (p .iir)) (addressed (isOpen p) offset)
+    let P : Out → Type 0 = λ o. Effect p (o .port) [] (o .events .noneLeft || o .events .flushed) (cond (o .events .delivered) (o .reply ∷ []) [] ++ o .events .discarded) in
+    read-cases P p (read-off p) (keeps (p .settings) _) (λ v. keeps (p .settings) (p .iir)) (addressed (isOpen p) offset)
 effect p (write offset v) =
-    write-cases (Wrote p v) p v (looped p v) (keeps (p .settings) _) (sent-on p v) (enabled p v) (λ s e. keeps s (p .iir))
+    write-cases (Wrote p v) p v (looped p v) (keeps (p .settings) _) (sent-on p v) (enabled p v) (λ s e. keeps s (p .iir)) (λ s e. empties s _)
     (addressed (isOpen p) offset)
 effect p (input bytes) =
-    input-cases (λ (i : Input). let a = didInput i .answer in Effect p (i .port) (take (taken a) bytes) (eventsOf a .noneLeft) (delivered a)) p bytes
+    input-cases (λ (i : Input). let a = didInput i .answer in Effect p (i .port) (take (taken a) bytes) (noneLeftBy a) (gone a)) p bytes
     (not-taken p bytes) (received p (take (takes p bytes) bytes))
 effect p room = keeps (p .settings) (p .iir)
 

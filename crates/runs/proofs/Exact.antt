@@ -5,19 +5,20 @@ use mathlib.Core.List.{List, [], _∷_, _++_}
 use Prim.Native.Nat.{ℕ, suc, _-_, _<_, _≤_, min}
 use native.Mathlib.Nat.{mod-eq-of-lt}
 use native.Mathlib.Omega.{arith}
-use lib.Bits.{bitOr, and-mask}
+use lib.Bits.{bitOr, bitAnd, and-mask, and-le-r}
 use lib.ListN.{length}
 use lib.Seq.{take-length}
 use lib.Dec.{eqb, ltb, lit<}
 use borrow.Author.Tests.{lt-ltb, ne-eqb}
 use Rattle.common.specs.Bytes.{Bytes}
+use Rattle.common.proofs.EveryByte.{same-test}
 use Rattle.common.specs.Lists.{some}
 use Rattle.common.specs.Bits.{on}
 use Rattle.interrupts.specs.Interrupts.{ierStored, code, settled, afterIdentification}
 use Rattle.interrupts.proofs.Laws.{set-pending}
 use Rattle.line_status.specs.LineStatus.{lsrReady}
 use Rattle.modem.specs.Modem.{isLoop}
-use Rattle.serial.specs.Port.{addressed, Settings, Port, fresh, readRegister, receives, writeIer, writeRegister, inputOf}
+use Rattle.serial.specs.Port.{addressed, Settings, Port, fresh, readRegister, receives, writeIer, fcrStored, writeFcr, writeRegister, inputOf}
 use mathlib.Core.Logic.{_↔_}
 use Rattle.runs.proofs.Effects.{run-on}
 use Rattle.runs.proofs.Reachable.{all-reachable}
@@ -42,7 +43,7 @@ then size r more b e = (
 
 at : ℕ → ℕ → ℕ → List ℕ → Port
 at size ier iir q = record {
-  settings = record { ier = ier; lcr = 0x03; mcr = 0x08; scr = 0; dll = 0x0c; dlm = 0 };
+  settings = record { ier = ier; lcr = 0x03; mcr = 0x08; scr = 0; dll = 0x0c; dlm = 0; fcr = 0 };
   iir = iir;
   lsr = cond (some q) 0x61 0x60;
   msr = 0xb0;
@@ -148,19 +149,28 @@ way size p k = to size e h q b f (sym (k .iir)) (go (on e 0x02) (on (p .iir) 0x0
 -- ---- Then the other settings
 
 set : Settings → List Op
-set s = write 7 (s .scr) ∷ write 3 0x80 ∷ write 0 (s .dll) ∷ write 1 (s .dlm) ∷ write 3 (s .lcr) ∷ write 4 (s .mcr) ∷ []
+set s = write 7 (s .scr) ∷ write 3 0x80 ∷ write 0 (s .dll) ∷ write 1 (s .dlm) ∷ write 3 (s .lcr) ∷ write 2 (s .fcr) ∷ write 4 (s .mcr) ∷ []
+
+-- what is remembered of FCR is a byte, and empties nothing
+remembered-byte : (f : ℕ) → fcrStored f ≡ f → f < 256
+remembered-byte f e = omega (arith, and-le-r f 0xc9)
+
+remembered-keeps : (f : ℕ) → fcrStored f ≡ f → on f 0x02 ≡ false
+remembered-keeps f e =
+    ap (λ (g : ℕ). on g 0x02) (sym e) ∙ same-test (λ g. on (bitAnd g 0xc9) 0x02) (λ g. false) tt f (remembered-byte f e)
 
 set-bytes : (s : Settings) → Written s → AllOfBytes (set s)
 unfolding set
 set-bytes s w =
-    ((lit< tt, w .scr), ((lit< tt, lit< tt), ((lit< tt, w .dll), ((lit< tt, w .dlm), ((lit< tt, w .lcr), ((lit< tt, w .mcr), tt))))))
+    ((lit< tt, w .scr), ((lit< tt, lit< tt), ((lit< tt, w .dll), ((lit< tt, w .dlm), ((lit< tt, w .lcr), ((lit< tt, remembered-byte (s .fcr) (w .fcr)), ((lit< tt, w .mcr), tt)))))))
 
 target : ℕ → Settings → ℕ → List ℕ → Port
 target size s iir q = record { settings = s; iir = iir; lsr = cond (some q) 0x61 0x60; msr = 0xb0; waiting = q; size = size }
 
-sets : (size : ℕ) (s : Settings) (iir : ℕ) (q : List ℕ) → run (at size (s .ier) iir q) (set s) .port ≡ target size s iir q
-unfolding run step set at target addressed writeRegister
-sets size s iir q = refl
+sets : (size : ℕ) (s : Settings) (iir : ℕ) (q : List ℕ) → fcrStored (s .fcr) ≡ s .fcr
+    → run (at size (s .ier) iir q) (set s) .port ≡ target size s iir q
+unfolding run step set at target addressed writeRegister writeFcr
+sets size s iir q f = rw (remembered-keeps (s .fcr) f, f) refl
 
 is-target : (size : ℕ) (p : Port) → Reachable size p → target size (p .settings) (p .iir) (p .waiting) ≡ p
 unfolding target
@@ -174,7 +184,7 @@ is-target size p k = go (k .lsr) (k .msr) (k .sized)
 pub reached : (size : ℕ) (p : Port) → Reachable size p → Reached size p
 reached size p k =
     then size (arrives (way size p k)) (set (p .settings)) (set-bytes (p .settings) (k .settings))
-    (sets size (p .settings) (p .iir) (p .waiting) ∙ is-target size p k)
+    (sets size (p .settings) (p .iir) (p .waiting) (k .settings .fcr) ∙ is-target size p k)
 
 -- .. so the two say the same.
 pub exact : (size : ℕ) (p : Port) → Reachable size p ↔ Reached size p

@@ -49,7 +49,7 @@ unfolding portOf
 alike regs pos ring regs′ pos′ ring′ a =
     let r = a .registers in
     let q = queue-alike places ring ring′ (countOf pos) (startOf pos) (startOf pos′) (a .bytes) in
-    rw (r 0 (lit< tt), r 1 (lit< tt), r 2 (lit< tt), r 3 (lit< tt), r 4 (lit< tt), r 5 (lit< tt), r 6 (lit< tt), r 7 (lit< tt), r 8 (lit< tt), a .size, q, a .count)
+    rw (r 0 (lit< tt), r 1 (lit< tt), r 2 (lit< tt), r 3 (lit< tt), r 4 (lit< tt), r 5 (lit< tt), r 6 (lit< tt), r 7 (lit< tt), r 8 (lit< tt), r 9 (lit< tt), a .size, q, a .count)
 
 -- .. so they answer every run alike ..
 pub alike-answers : (regs pos ring regs′ pos′ ring′ : List ℕ) (os : List Op) → Alike regs pos ring regs′ pos′ ring′

@@ -11,7 +11,7 @@ use Rattle.common.specs.Bits.{on}
 use Rattle.common.specs.Lists.{some}
 use Rattle.interrupts.specs.Interrupts.{Kind, receivedData, transmitterEmpty, nonePending, isActive, code, settled, newly}
 use Rattle.interrupts.proofs.Laws.{settled-keeps, set-active}
-use Rattle.serial.specs.Port.{Port, Out, Input, Settings, addressed, isOpen, withSettings, active, becomes, readRbr, readIir, receives}
+use Rattle.serial.specs.Port.{Port, Out, Input, Settings, addressed, isOpen, withSettings, active, becomes, readRbr, readIir, receives, flushes}
 use Rattle.serial.specs.Port.{emptied, writeIer, writeLine, takesNone}
 use Rattle.runs.specs.Run.{Op, read, write, input, room, raisesOf, didInput, step}
 use Rattle.runs.specs.Reachable.{Settled}
@@ -149,6 +149,16 @@ module _ (p : Port) where
       go true e = k ∙ ap (settled (p .settings .ier) (p .iir)) (tail-waits (p .waiting) e)
       go false e = settled-twice (p .settings .ier) (p .iir) false
 
+  -- ---- FCR empties the receiver
+
+  module _ (s : Settings) (e : s .ier ≡ p .settings .ier) where
+    flush-active : (kind : Kind) → active (flushes (withSettings p s) .port) kind ≡ true → active p kind ≡ true
+    flush-active receivedData h = absurd (false≢true (both-true (on (s .ier) 0x01) false h .1))
+    flush-active transmitterEmpty h = rw (← e) (sym (settled-keeps (s .ier) (p .iir) false) ∙ h)
+
+    flush-settled : Settled (flushes (withSettings p s) .port)
+    flush-settled = settled-twice (s .ier) (p .iir) false
+
   identified-active : (kind : Kind) → active (readIir p .port) kind ≡ true → active p kind ≡ true
   identified-active receivedData h = h
   identified-active transmitterEmpty h = go (eqb (code (p .settings .ier) (p .iir) (some (p .waiting))) 0x02) h
@@ -205,7 +215,8 @@ module _ (p : Port) where
       read-cases Exactly p (sym (none-from p (readRbr p .port) (read-active p))) (sym (none-from p (readIir p .port) (identified-active p)))
       (λ v. sym (none-from p p (λ kind h. h))) (addressed (isOpen p) offset)
   raises-exactly (write offset v) =
-      write-cases Exactly p v (λ h. looped v) (omega arith) (sent-raises v) (enabled-raises v) nothing (addressed (isOpen p) offset)
+      write-cases Exactly p v (λ h. looped v) (omega arith) (sent-raises v) (enabled-raises v) nothing (λ s e. sym (none-from p (flushes (withSettings p s) .port) (flush-active p s e)))
+      (addressed (isOpen p) offset)
   raises-exactly (input bytes) =
       input-cases (λ (i : Input). raisesOf (didInput i .answer) ≡ raisedFrom p (i .port)) p bytes taken-none (λ s h. came-raises p _ s)
   raises-exactly room = sym (none-from p p (λ kind h. h))
@@ -231,7 +242,7 @@ module _ (p : Port) (k : Settled p) where
   stays-settled (read offset) = read-cases Fine p (read-settled p k) (identified-settled p k) (λ v. k) (addressed (isOpen p) offset)
   stays-settled (write offset v) =
       write-cases Fine p v (λ h. came-settled (emptied p) (v ∷ []) refl (emptied-settled p k)) (emptied-settled p k) (sent-settled v)
-      (enabled-settled v) stored-settled
+      (enabled-settled v) stored-settled (λ s e. flush-settled p s e)
       (addressed (isOpen p) offset)
   stays-settled (input bytes) = input-cases (λ (i : Input). Settled (i .port)) p bytes (λ f. k) (λ s h. came-settled p _ s k)
   stays-settled room = k

@@ -5,11 +5,12 @@ use mathlib.Core.List.{List, [], _∷_, _++_, tail}
 use Prim.Native.Nat.{ℕ, _<_}
 use native.Mathlib.Omega.{arith}
 use lib.ListN.{length-append}
-use lib.Bits.{and-le-r}
+use lib.Bits.{bitAnd, and-le-r}
 use lib.Dec.{lit<}
 use Rattle.common.specs.Bytes.{Bytes}
 use Rattle.common.specs.Lists.{some}
 use Rattle.common.proofs.Bytes.{bytes-take}
+use Rattle.common.proofs.EveryByte.{same}
 use Rattle.interrupts.specs.Interrupts.{ierStored, settled}
 use Rattle.line_status.specs.LineStatus.{lsrReady, lsrAfterRead}
 use Rattle.serial.specs.Port.{Register, RBR-THR, IER, IIR-FCR, LCR, MCR, LSR, MSR, SCR, DLL, DLM, reserved, addressed, Settings, Port}
@@ -19,7 +20,7 @@ use Rattle.runs.specs.Accepted.{accepted, taken, eventsOf}
 use Rattle.runs.specs.Reachable.{Written, Settled, Reachable}
 use Rattle.runs.specs.Reached.{OfBytes, AllOfBytes}
 use Rattle.runs.proofs.Registers.{both, put, write-puts}
-use Rattle.runs.proofs.Effects.{Effect, keeps, comes, reads, read-cases, input-cases, effect}
+use Rattle.runs.proofs.Effects.{Effect, keeps, comes, reads, empties, read-cases, input-cases, effect}
 use Rattle.runs.proofs.Conserved.{tail-short}
 use Rattle.runs.proofs.Status.{some-more}
 use Rattle.runs.proofs.Raising.{stays-settled}
@@ -51,19 +52,24 @@ input-keeps-settings : (p : Port) (bytes : List ℕ) → inputOf p bytes .port .
 unfolding receives
 input-keeps-settings p bytes = input-cases (λ (i : Input). i .port .settings ≡ p .settings) p bytes (λ f. refl) (λ s h. refl)
 
+-- what is remembered of FCR is remembered as it is
+masked-twice : (v : ℕ) → v < 256 → bitAnd (bitAnd v 0xc9) 0xc9 ≡ bitAnd v 0xc9
+masked-twice = same (λ v. bitAnd (bitAnd v 0xc9) 0xc9) (λ v. bitAnd v 0xc9) tt
+
 put-written : (s : Settings) (r : Register) (v : ℕ) → Written s → v < 256 → Written (put s r v)
 unfolding put ierStored
 put-written s RBR-THR v w h = w
 put-written s IER v w h =
-    record { ier = omega (arith, and-le-r v 0x0f); lcr = w .lcr; mcr = w .mcr; scr = w .scr; dll = w .dll; dlm = w .dlm }
-put-written s IIR-FCR v w h = w
-put-written s LCR v w h = record { ier = w .ier; lcr = h; mcr = w .mcr; scr = w .scr; dll = w .dll; dlm = w .dlm }
-put-written s MCR v w h = record { ier = w .ier; lcr = w .lcr; mcr = h; scr = w .scr; dll = w .dll; dlm = w .dlm }
+    record { ier = omega (arith, and-le-r v 0x0f); lcr = w .lcr; mcr = w .mcr; scr = w .scr; dll = w .dll; dlm = w .dlm; fcr = w .fcr }
+put-written s IIR-FCR v w h =
+    record { ier = w .ier; lcr = w .lcr; mcr = w .mcr; scr = w .scr; dll = w .dll; dlm = w .dlm; fcr = masked-twice v h }
+put-written s LCR v w h = record { ier = w .ier; lcr = h; mcr = w .mcr; scr = w .scr; dll = w .dll; dlm = w .dlm; fcr = w .fcr }
+put-written s MCR v w h = record { ier = w .ier; lcr = w .lcr; mcr = h; scr = w .scr; dll = w .dll; dlm = w .dlm; fcr = w .fcr }
 put-written s LSR v w h = w
 put-written s MSR v w h = w
-put-written s SCR v w h = record { ier = w .ier; lcr = w .lcr; mcr = w .mcr; scr = h; dll = w .dll; dlm = w .dlm }
-put-written s DLL v w h = record { ier = w .ier; lcr = w .lcr; mcr = w .mcr; scr = w .scr; dll = h; dlm = w .dlm }
-put-written s DLM v w h = record { ier = w .ier; lcr = w .lcr; mcr = w .mcr; scr = w .scr; dll = w .dll; dlm = h }
+put-written s SCR v w h = record { ier = w .ier; lcr = w .lcr; mcr = w .mcr; scr = h; dll = w .dll; dlm = w .dlm; fcr = w .fcr }
+put-written s DLL v w h = record { ier = w .ier; lcr = w .lcr; mcr = w .mcr; scr = w .scr; dll = h; dlm = w .dlm; fcr = w .fcr }
+put-written s DLM v w h = record { ier = w .ier; lcr = w .lcr; mcr = w .mcr; scr = w .scr; dll = w .dll; dlm = h; fcr = w .fcr }
 put-written s reserved v w h = w
 
 written : (p : Port) (o : Op) → OfBytes o → Written (p .settings) → Written (step p o .port .settings)
@@ -80,6 +86,11 @@ lsr-ready : {lsr : ℕ} (b : Bool) {c : Bool} → lsr ≡ cond b 0x61 0x60 → c
 unfolding lsrReady
 lsr-ready true e h = rw (e, h)
 lsr-ready false e h = rw (e, h)
+
+lsr-emptied : {lsr : ℕ} (b : Bool) → lsr ≡ cond b 0x61 0x60 → lsrAfterRead false lsr ≡ 0x60
+unfolding lsrAfterRead
+lsr-emptied true e = rw e
+lsr-emptied false e = rw e
 
 lsr-read : (q : List ℕ) (lsr : ℕ) → lsr ≡ cond (some q) 0x61 0x60 → lsrAfterRead (some (tail q)) lsr ≡ cond (some (tail q)) 0x61 0x60
 unfolding lsrAfterRead
@@ -101,6 +112,15 @@ kept {p = p} (comes l i s h) b w u k = record {
   fits = omega (arith, length-append (p .waiting) l, k .sized);
   sized = k .sized;
 }
+kept {p = p} (empties s i) b w u k = record {
+  settings = w;
+  iir = u;
+  lsr = lsr-emptied (some (p .waiting)) (k .lsr);
+  msr = k .msr;
+  bytes = tt;
+  fits = omega arith;
+  sized = k .sized;
+}
 kept {p = p} reads b w u k = record {
   settings = w;
   iir = u;
@@ -118,7 +138,7 @@ step-reachable size p o h k =
 pub fresh-reachable : (size : ℕ) → Reachable size (fresh size)
 unfolding settled
 fresh-reachable size = record {
-  settings = record { ier = lit< tt; lcr = lit< tt; mcr = lit< tt; scr = lit< tt; dll = lit< tt; dlm = lit< tt };
+  settings = record { ier = lit< tt; lcr = lit< tt; mcr = lit< tt; scr = lit< tt; dll = lit< tt; dlm = lit< tt; fcr = refl };
   iir = refl;
   lsr = refl;
   msr = refl;

@@ -5,10 +5,11 @@ use Prim.Native.Nat.{ℕ, suc, _≤_}
 use native.Mathlib.Omega.{arith}
 use lib.Dec.{eqb}
 use borrow.Author.Tests.{eqb-true, eqb-false, ne-eqb}
+use Rattle.common.specs.Bits.{on}
 use Rattle.interrupts.specs.Interrupts.{ierStored}
 use Rattle.serial.specs.Port.{Register, RBR-THR, IER, IIR-FCR, LCR, MCR, LSR, MSR, SCR, DLL, DLM, reserved, addressed, Settings, Port}
-use Rattle.serial.specs.Port.{inLoop, hasRoom, putIer, putLcr, putMcr, putScr, putDll, putDlm, Out, receives, writeIer, writeLine}
-use Rattle.serial.specs.Port.{writeLoop, writeRegister}
+use Rattle.serial.specs.Port.{inLoop, hasRoom, putIer, putLcr, putMcr, putScr, putDll, putDlm, putFcr, fcrStored, Out, receives, writeIer, writeLine}
+use Rattle.serial.specs.Port.{withSettings, becomes, writeLoop, flushes, writeFcr, writeRegister}
 
 -- what holds of both of a test's cases holds of its outcome
 pub both : {A : Type 0} (P : A → Type 0) (t : Bool) {a b : A} → P a → P b → P (cond t a b)
@@ -40,6 +41,34 @@ addressed-cases P dlab p0 p1 p2 p3 p4 p5 p6 p7 p8 n =
   where
     hit : (k : ℕ) {r : Register} → P k r → eqb n k ≡ true → P n r
     hit k {r} x e = subst (λ (m : ℕ). P m r) (sym (eqb-true n k e)) x
+
+unfoldable pub isFcr : Register → Bool
+isFcr RBR-THR = false
+isFcr IER = false
+isFcr IIR-FCR = true
+isFcr LCR = false
+isFcr MCR = false
+isFcr LSR = false
+isFcr MSR = false
+isFcr SCR = false
+isFcr DLL = false
+isFcr DLM = false
+isFcr reserved = false
+
+-- FCR is at offset 2, whether or not the divisor is closed
+pub fcr-is-at-2 : (dlab : Bool) (n : ℕ) → isFcr (addressed dlab n) ≡ eqb n 2
+unfolding isFcr
+fcr-is-at-2 dlab =
+    addressed-cases (λ n r. isFcr r ≡ eqb n 2) dlab (at0 dlab) (at1 dlab) refl refl refl refl refl refl
+    (λ n h. rw (ne-eqb n 2 (λ e. omega arith)))
+  where
+    at0 : (t : Bool) → isFcr (cond t DLL RBR-THR) ≡ false
+    at0 true = refl
+    at0 false = refl
+
+    at1 : (t : Bool) → isFcr (cond t DLM IER) ≡ false
+    at1 true = refl
+    at1 false = refl
 
 unfoldable pub isRbr : Register → Bool
 isRbr RBR-THR = true
@@ -75,7 +104,7 @@ rbr-is-data dlab =
 unfoldable pub put : Settings → Register → ℕ → Settings
 put s RBR-THR v = s
 put s IER v = putIer s (ierStored v)
-put s IIR-FCR v = s
+put s IIR-FCR v = putFcr s (fcrStored v)
 put s LCR v = putLcr s v
 put s MCR v = putMcr s v
 put s LSR v = s
@@ -86,11 +115,11 @@ put s DLM v = putDlm s v
 put s reserved v = s
 
 pub write-puts : (p : Port) (r : Register) (v : ℕ) → writeRegister p r v .port .settings ≡ put (p .settings) r v
-unfolding writeRegister put receives writeIer writeLine writeLoop
+unfolding writeRegister put receives writeIer writeLine writeLoop writeFcr
 write-puts p RBR-THR v = let P : Out
     → Type 0 = λ o. o .port .settings ≡ p .settings in both P (inLoop p) (both P (hasRoom p) refl refl) refl
 write-puts p IER v = refl
-write-puts p IIR-FCR v = refl
+write-puts p IIR-FCR v = let kept = putFcr (p .settings) (fcrStored v) in both (λ (o : Out). o .port .settings ≡ kept) (on v 0x02) refl refl
 write-puts p LCR v = refl
 write-puts p MCR v = refl
 write-puts p LSR v = refl

@@ -10,7 +10,7 @@ use Rattle.serial.specs.Port.{Port, fresh}
 use Rattle.runs.specs.Run.{Op, step, run}
 use Rattle.runs.specs.Status.{Truthful, Same, settles, settled}
 use Rattle.runs.proofs.LineStatus.{ready-set, ready-cleared}
-use Rattle.runs.proofs.Effects.{Effect, keeps, comes, reads, effect}
+use Rattle.runs.proofs.Effects.{Effect, keeps, comes, reads, empties, effect}
 
 pub some-more : (q l : List ℕ) → some l ≡ true → some (q ++ l) ≡ true
 some-more [] l e = e
@@ -27,6 +27,7 @@ true-after : {p q : Port} {a d : List ℕ} {t : Bool} → Effect p q a t d → (
 true-after (keeps s m) h = absurd (false≢true h)
 true-after {p} (comes bytes i s _) h = ready-set (p .lsr) ∙ sym (some-more (p .waiting) bytes s)
 true-after {p} reads h = true-after-read (p .waiting) (p .lsr) h
+true-after {p} (empties s i) h = ready-cleared (p .lsr)
 
 same-after-read : (q : List ℕ) (lsr : ℕ) → not (some (tail q)) ≡ false
     → (on (lsrAfterRead (some (tail q)) lsr) 0x01 ≡ on lsr 0x01) × (some (tail q) ≡ some q)
@@ -39,6 +40,7 @@ same-after : {p q : Port} {a d : List ℕ} {t : Bool} → Effect p q a t d → (
 same-after (keeps s m) h = record { says = refl; waits = refl }
 same-after {p} (comes bytes i s _) h = absurd (true≢false (sym (ap (λ (b : Bool). b || false) s) ∙ h))
 same-after {p} reads h = let r = same-after-read (p .waiting) (p .lsr) h in record { says = r .0; waits = r .1 }
+same-after (empties s i) h = absurd (true≢false h)
 
 -- After an operation that settles it the register tells the truth, whatever it said before ..
 pub settling : (p : Port) (o : Op) → settles o (step p o .answer) ≡ true → Truthful (step p o .port)

@@ -1,11 +1,12 @@
--- Which bytes were accepted and which delivered, as operations and their answers say it. The host needs nothing else for it.
+-- Which bytes were accepted and which left again, as operations and their answers say it.
 use Prim.Native.Nat.{ℕ}
 use mathlib.Core.Bool.{Bool, cond, not, _&&_}
 use mathlib.Core.List.{List, [], _∷_, _++_, tail}
 use lib.Dec.{eqb}
 use lib.ListN.{take}
+use Rattle.common.specs.Bits.{on}
 use Rattle.common.specs.Lists.{some}
-use Rattle.serial.specs.Port.{Port, isOpen, inLoop, hasRoom, Events, noEvents, readEvents, loopEvents}
+use Rattle.serial.specs.Port.{Port, isOpen, inLoop, hasRoom, Events, noEvents, readEvents, loopEvents, flushEvents}
 use Rattle.runs.specs.Run.{Op, read, write, input, room, Answer, replied, sent, took, full}
 use Rattle.runs.specs.Run as runs
 
@@ -42,6 +43,10 @@ accepted room a = []
 unfoldable pub delivered : Answer → List ℕ
 delivered a = cond (eventsOf a .delivered) (reply a ∷ []) []
 
+-- Gone: delivered, or thrown away by a write of FCR. The host hears how many those are.
+unfoldable pub gone : Answer → List ℕ
+gone a = delivered a ++ eventsOf a .discarded
+
 -- ---- Over a run
 
 abbrev pub allAccepted : List Op → List Answer → List ℕ
@@ -53,6 +58,10 @@ abbrev pub allDelivered : List Answer → List ℕ
 allDelivered [] = []
 allDelivered (a ∷ more) = delivered a ++ allDelivered more
 
+abbrev pub allGone : List Answer → List ℕ
+allGone [] = []
+allGone (a ∷ more) = gone a ++ allGone more
+
 -- ---- When an answer says so
 
 -- Offset 0 is RBR and THR while the divisor is closed.
@@ -63,6 +72,12 @@ isData p offset = eqb offset 0 && not (isOpen p)
 unfoldable pub toldByRead : Port → ℕ → Events
 toldByRead p offset = cond (isData p offset) (readEvents (some (p .waiting)) (some (tail (p .waiting)))) noEvents
 
--- Of a write, in the loop: its byte waits where there is room, and is dropped where there is none.
-unfoldable pub toldByWrite : Port → ℕ → Events
-toldByWrite p offset = cond (isData p offset && inLoop p) (loopEvents (hasRoom p)) noEvents
+-- FCR, at offset 2, empties the receiver by 0x02.
+abbrev pub isFlush : ℕ → ℕ → Bool
+isFlush offset value = eqb offset 2 && on value 0x02
+
+-- Of a write, in the loop: its byte waits where there is room, and is dropped where there is none. Of FCR: what waited is thrown away.
+unfoldable pub toldByWrite : Port → ℕ → ℕ → Events
+toldByWrite p offset value =
+    cond (isData p offset && inLoop p) (loopEvents (hasRoom p))
+    (cond (isFlush offset value) (flushEvents (p .waiting)) noEvents)

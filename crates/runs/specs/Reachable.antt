@@ -6,9 +6,9 @@ use lib.ListN.{length}
 use Rattle.common.specs.Bytes.{Bytes}
 use Rattle.common.specs.Lists.{some}
 use Rattle.interrupts.specs.Interrupts.{settled}
-use Rattle.serial.specs.Port.{Settings, Port}
+use Rattle.serial.specs.Port.{Settings, Port, fcrStored}
 
--- IER keeps four bits, the others eight.
+-- IER keeps four bits, FCR those that are remembered, the others eight.
 pub record Written (s : Settings) : Type 0 where
   pub ier : s .ier < 16
   pub lcr : s .lcr < 256
@@ -16,6 +16,7 @@ pub record Written (s : Settings) : Type 0 where
   pub scr : s .scr < 256
   pub dll : s .dll < 256
   pub dlm : s .dlm < 256
+  pub fcr : fcrStored (s .fcr) ≡ s .fcr
 
 -- IIR has a bit for each active kind, or says that there is none.
 abbrev pub Settled : Port → Type 0

@@ -18,9 +18,9 @@ pub record Same (p q : Port) : Type 0 where
   pub waits : some (q .waiting) ≡ some (p .waiting)
 
 -- The operations after which it is true whatever it said before, as their answers tell: bytes are accepted, or RBR is read and no byte is
--- left.
+-- left, or FCR empties the receiver.
 unfoldable pub settles : Op → Answer → Bool
-settles o a = some (accepted o a) || eventsOf a .noneLeft
+settles o a = some (accepted o a) || (eventsOf a .noneLeft || eventsOf a .flushed)
 
 -- Some operation of the run is one of them.
 abbrev pub settled : List Op → List Answer → Bool

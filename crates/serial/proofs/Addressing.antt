@@ -34,17 +34,16 @@ module _ (dlab : Bool) (offset : ℕ) where
   at-reserved h a b c d e f =
       rw (ne-eqb offset 0 (λ z. omega arith), ne-eqb offset 1 (λ z. omega arith), ne-eqb _ _ a, ne-eqb _ _ b, ne-eqb _ _ c, ne-eqb _ _ d, ne-eqb _ _ e, ne-eqb _ _ f)
 
-  -- Offsets 2, 5, 6 and the reserved ones are not written.
-  nothing : (p : Port) (v : ℕ) (a b c : Bool) → writeRegister p (cond a IIR-FCR (cond b LSR (cond c MSR reserved))) v ≡ becomes p
+  -- Offsets 5, 6 and the reserved ones are not written.
+  nothing : (p : Port) (v : ℕ) (b c : Bool) → writeRegister p (cond b LSR (cond c MSR reserved)) v ≡ becomes p
   unfolding writeRegister
-  nothing p v true b c = refl
-  nothing p v false true c = refl
-  nothing p v false false true = refl
-  nothing p v false false false = refl
+  nothing p v true c = refl
+  nothing p v false true = refl
+  nothing p v false false = refl
 
-  pub unwritten : (p : Port) (v : ℕ) → 2 ≤ offset → (offset ≡ 3 → ⊥) → (offset ≡ 4 → ⊥) → (offset ≡ 7 → ⊥)
+  pub unwritten : (p : Port) (v : ℕ) → 2 ≤ offset → (offset ≡ 2 → ⊥) → (offset ≡ 3 → ⊥) → (offset ≡ 4 → ⊥) → (offset ≡ 7 → ⊥)
       → writeRegister p (addressed dlab offset) v ≡ becomes p
   unfolding addressed
-  unwritten p v h a b c =
-      rw (ne-eqb offset 0 (λ z. omega arith), ne-eqb offset 1 (λ z. omega arith), ne-eqb _ _ a, ne-eqb _ _ b, ne-eqb _ _ c)
-      (nothing p v (eqb offset 2) (eqb offset 5) (eqb offset 6))
+  unwritten p v h i a b c =
+      rw (ne-eqb offset 0 (λ z. omega arith), ne-eqb offset 1 (λ z. omega arith), ne-eqb _ _ i, ne-eqb _ _ a, ne-eqb _ _ b, ne-eqb _ _ c)
+      (nothing p v (eqb offset 5) (eqb offset 6))

@@ -3,14 +3,16 @@ use mathlib.Core.Path.{_≡_, refl, _∙_}
 use mathlib.Core.Logic.{_⊎_, inl, inr}
 use mathlib.Core.Bool.{Bool, true, false, cond}
 use mathlib.Core.List.{List, [], _∷_}
-use Prim.Native.Nat.{ℕ, _≤_, _<_}
+use Prim.Native.Nat.{ℕ, _+_, _≤_, _<_}
 use native.Mathlib.Omega.{arith}
 use lib.ListN.{length}
+use Rattle.common.specs.Answer.{sentBit}
+use Rattle.common.specs.Bits.{on}
 use Rattle.common.proofs.Words.{Parts, parts}
 use Rattle.serial.specs.Port.{Port, Register, RBR-THR, IER, IIR-FCR, LCR, MCR, LSR, MSR, SCR, DLL, DLM, reserved, Out, Input}
-use Rattle.serial.specs.Port.{inLoop, writeLine, writeLoop, writeIer, writeRegister}
+use Rattle.serial.specs.Port.{inLoop, withSettings, becomes, writeLine, writeLoop, writeIer, putFcr, fcrStored, flushes, writeFcr, writeRegister}
 use Rattle.serial.specs.Layout.{places, portOf, spareRegisters, freshSpareRegisters}
-use Rattle.serial.specs.Calls.{readWord, writeWord, inputWord, SparesKept, MakesFresh}
+use Rattle.serial.specs.Calls.{tells, readWord, writeWord, inputWord, SparesKept, MakesFresh}
 use Rattle.serial.proofs.Sizes.{size-few}
 use Rattle.serial.proofs.Answering.{waiting-length}
 
@@ -29,14 +31,19 @@ spares-stay-zero size regs pos regs′ pos′ fresh kept = kept .0 ∙ fresh .sp
 
 -- A write sends its value or nothing.
 pub sent-value : (p : Port) (g : Register) (value : ℕ) → (writeRegister p g value .sent ≡ []) ⊎ (writeRegister p g value .sent ≡ value ∷ [])
-unfolding writeRegister writeLine writeLoop writeIer
+unfolding writeRegister writeLine writeLoop writeIer writeFcr
 sent-value p RBR-THR value = go (inLoop p)
   where
     go : (loops : Bool) → let o = cond loops (writeLoop p value) (writeLine p value) in (o .sent ≡ []) ⊎ (o .sent ≡ value ∷ [])
     go true = inl refl
     go false = inr refl
 sent-value p IER value = inl refl
-sent-value p IIR-FCR value = inl refl
+sent-value p IIR-FCR value = go (on value 0x02)
+  where
+    go : (t : Bool) → let kept = withSettings p (putFcr (p .settings) (fcrStored value)) in let o = cond t (flushes kept) (becomes kept) in
+        (o .sent ≡ []) ⊎ (o .sent ≡ value ∷ [])
+    go true = inl refl
+    go false = inl refl
 sent-value p LCR value = inl refl
 sent-value p MCR value = inl refl
 sent-value p LSR value = inl refl
@@ -52,20 +59,25 @@ module _ (o : Out) where
   -- A word that tells what the access does, behind a number.
   abbrev Tells : ℕ → Bool → ℕ → Type 0
   Tells number sends word =
-      let e = o .events in Parts number false sends false (e .dataRead) (e .delivered) (e .noneLeft) (e .looped) (e .dropped) (o .raises) word
+      let e = o .events in
+      Parts number false sends false (e .dataRead) (e .delivered) (e .noneLeft) (e .looped) (e .dropped) (e .flushed) (o .raises) word
+
+  told : (number : ℕ) (sends : Bool) (word : ℕ) → word ≡ number + cond sends sentBit 0 + tells (o .events) (o .raises) → number < 0x1_0000
+      → Tells number sends word
+  told number sends word same h =
+      let e = o .events in
+      parts number false sends false (e .dataRead) (e .delivered) (e .noneLeft) (e .looped) (e .dropped) (e .flushed) (o .raises) word (same ∙ omega arith) h
 
   pub read-word : o .reply < 0x1_0000 → Tells (o .reply) false (readWord o)
-  read-word h = let e = o .events in
-      parts (o .reply) false false false (e .dataRead) (e .delivered) (e .noneLeft) (e .looped) (e .dropped) (o .raises) _ (omega arith) h
+  read-word h = told (o .reply) false (readWord o) (omega arith) h
 
-  pub silent-word : o .sent ≡ [] → Tells 0 false (writeWord o)
-  silent-word s = let e = o .events in
-      parts 0 false false false (e .dataRead) (e .delivered) (e .noneLeft) (e .looped) (e .dropped) (o .raises) _ (rw s (omega arith)) (omega arith)
+  -- A write that sends nothing tells how many bytes were thrown away; one that sends a byte throws none away.
+  pub silent-word : o .sent ≡ [] → length (o .events .discarded) < 0x1_0000 → Tells (length (o .events .discarded)) false (writeWord o)
+  silent-word s h = told (length (o .events .discarded)) false (writeWord o) (rw s (omega arith)) h
 
-  pub sent-word : (byte : ℕ) → o .sent ≡ byte ∷ [] → byte < 0x1_0000 → Tells byte true (writeWord o)
-  sent-word byte s h = let e = o .events in
-      parts byte false true false (e .dataRead) (e .delivered) (e .noneLeft) (e .looped) (e .dropped) (o .raises) _ (rw s (omega arith)) h
+  pub sent-word : (byte : ℕ) → o .sent ≡ byte ∷ [] → o .events .discarded ≡ [] → byte < 0x1_0000 → Tells byte true (writeWord o)
+  sent-word byte s d h = told byte true (writeWord o) (rw (s, d) (omega arith)) h
 
 pub input-word : (i : Input) → i .taken < 0x1_0000
-    → Parts (i .taken) (i .full) false false false false false false false (i .raises) (inputWord i)
-input-word i h = parts (i .taken) (i .full) false false false false false false false (i .raises) _ (omega arith) h
+    → Parts (i .taken) (i .full) false false false false false false false false (i .raises) (inputWord i)
+input-word i h = parts (i .taken) (i .full) false false false false false false false false (i .raises) _ (omega arith) h

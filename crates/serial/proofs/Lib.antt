@@ -12,5 +12,6 @@ pub mod Looping
 pub mod Quiet
 pub mod Sending
 pub mod Enabling
+pub mod Flushing
 pub mod Bounds
 pub mod Examples

@@ -3,7 +3,8 @@ use Prim.Native.Nat.{ℕ, _+_, _*_}
 use mathlib.Core.Path.{_≡_}
 use mathlib.Core.List.{List, [], _∷_}
 use mathlib.Core.Bool.{Bool, cond}
-use Rattle.common.specs.Answer.{refusedBit, sentBit, dataReadBit, deliveredBit, noneLeftBit, loopedBit, droppedBit, oneRaise}
+use lib.ListN.{length}
+use Rattle.common.specs.Answer.{refusedBit, sentBit, dataReadBit, deliveredBit, noneLeftBit, loopedBit, droppedBit, flushedBit, oneRaise}
 use Rattle.serial.specs.Port.{Port, Events, Out, Input, isSize, fresh, roomOf, line}
 use Rattle.serial.specs.Layout.{portOf, unusedOf, spareRegisters, sparePositions, freshSpareRegisters, freshSparePositions}
 
@@ -14,7 +15,7 @@ abbrev pub eventBits : Events → ℕ
 eventBits e =
     cond (e .dataRead) dataReadBit 0 +
     (cond (e .delivered) deliveredBit 0 +
-    (cond (e .noneLeft) noneLeftBit 0 + (cond (e .looped) loopedBit 0 + cond (e .dropped) droppedBit 0)))
+    (cond (e .noneLeft) noneLeftBit 0 + (cond (e .looped) loopedBit 0 + (cond (e .dropped) droppedBit 0 + cond (e .flushed) flushedBit 0))))
 
 abbrev pub tells : Events → ℕ → ℕ
 tells events raises = eventBits events + oneRaise * raises
@@ -23,13 +24,13 @@ tells events raises = eventBits events + oneRaise * raises
 abbrev pub readWord : Out → ℕ
 readWord o = o .reply + tells (o .events) (o .raises)
 
--- After a write: the byte sent, where one is sent.
+-- After a write: the byte sent, where one is sent; how many bytes were thrown away.
 abbrev pub sentWord : List ℕ → ℕ
 sentWord [] = 0
 sentWord (byte ∷ rest) = byte + sentBit
 
 abbrev pub writeWord : Out → ℕ
-writeWord o = sentWord (o .sent) + tells (o .events) (o .raises)
+writeWord o = sentWord (o .sent) + length (o .events .discarded) + tells (o .events) (o .raises)
 
 -- After an input: how many bytes are taken; refused is "full".
 abbrev pub inputWord : Input → ℕ

@@ -25,7 +25,7 @@ startOf pos = getD pos 0 0
 abbrev pub countOf : List ℕ → ℕ
 countOf pos = min (getD pos 1 0) places
 
--- A register lies at its offset; the divisor's low byte DLL lies at 0 and its high byte DLM at 8.
+-- A register lies at its offset; the divisor's low byte DLL lies at 0 and its high byte DLM at 8, FCR at 9.
 unfoldable pub portOf : List ℕ → List ℕ → List ℕ → Port
 portOf regs pos ring = record {
   settings = record {
@@ -35,6 +35,7 @@ portOf regs pos ring = record {
     scr = getD regs 7 0;
     dll = getD regs 0 0;
     dlm = getD regs 8 0;
+    fcr = getD regs 9 0;
   };
   iir = getD regs 2 0;
   lsr = getD regs 5 0;
@@ -47,16 +48,16 @@ portOf regs pos ring = record {
 abbrev pub unusedOf : List ℕ → List ℕ → List ℕ
 unusedOf pos ring = queue places ring (startOf pos + countOf pos) (places - countOf pos)
 
--- Registers 9 to 14 and positions 2 and 3 are spare.
+-- Registers 10 to 14 and positions 2 and 3 are spare.
 abbrev pub spareRegisters : List ℕ → List ℕ
-spareRegisters regs = take 6 (drop 9 regs)
+spareRegisters regs = take 5 (drop 10 regs)
 
 abbrev pub sparePositions : List ℕ → List ℕ
 sparePositions pos = drop 2 pos
 
 -- In a fresh port they are 0.
 abbrev pub freshSpareRegisters : List ℕ
-freshSpareRegisters = 0 ∷ 0 ∷ 0 ∷ 0 ∷ 0 ∷ 0 ∷ []
+freshSpareRegisters = 0 ∷ 0 ∷ 0 ∷ 0 ∷ 0 ∷ []
 
 abbrev pub freshSparePositions : List ℕ
 freshSparePositions = 0 ∷ 0 ∷ []

@@ -4,6 +4,7 @@ use mathlib.Core.List.{List, [], _∷_, _++_, tail}
 use mathlib.Core.Bool.{Bool, true, false, cond, not, _||_}
 use lib.ListN.{length, take}
 use lib.Dec.{ltb, eqb}
+use lib.Bits.{bitAnd}
 use Rattle.common.specs.Bits.{on}
 use Rattle.common.specs.Lists.{some, firstOr0}
 use Rattle.interrupts.specs.Interrupts.{Kind, Ended, ierStored, nonePending, isActive, isHigh}
@@ -41,6 +42,7 @@ pub record Settings : Type 0 where
   pub scr : ℕ
   pub dll : ℕ
   pub dlm : ℕ
+  pub fcr : ℕ
 
 -- waiting: the receiver's bytes, the first to be read first; size: how many may wait. The manual's FIFO has 16: DIFFERENCES,
 -- "serial-line-overrun".
@@ -66,7 +68,7 @@ isSize size =
 -- A fresh port. A master reset clears LCR and MCR and leaves the divisor: DIFFERENCES, "serial-reset-values".
 abbrev pub fresh : ℕ → Port
 fresh size = record {
-  settings = record { ier = 0; lcr = 0x03; mcr = 0x08; scr = 0; dll = 0x0c; dlm = 0 };
+  settings = record { ier = 0; lcr = 0x03; mcr = 0x08; scr = 0; dll = 0x0c; dlm = 0; fcr = 0 };
   iir = nonePending;
   lsr = 0x60;
   msr = 0xb0;
@@ -92,15 +94,18 @@ withReceiver p iir lsr waiting = record { settings = p .settings; iir = iir; lsr
 -- raised
 
 -- RBR was read; a byte left with the reply; RBR was read and no byte waits. In the loop: the byte written waits; there was no room for it.
+-- FCR emptied the receiver, and threw these bytes away.
 pub record Events : Type 0 where
   pub dataRead : Bool
   pub delivered : Bool
   pub noneLeft : Bool
   pub looped : Bool
   pub dropped : Bool
+  pub flushed : Bool
+  pub discarded : List ℕ
 
 abbrev pub noEvents : Events
-noEvents = record { dataRead = false; delivered = false; noneLeft = false; looped = false; dropped = false }
+noEvents = record { dataRead = false; delivered = false; noneLeft = false; looped = false; dropped = false; flushed = false; discarded = [] }
 
 pub record Out : Type 0 where
   pub port : Port
@@ -119,7 +124,7 @@ becomes p = replies p 0
 
 -- RBR is read: whether bytes waited before it, and wait after it.
 abbrev pub readEvents : Bool → Bool → Events
-readEvents waited waits = record { dataRead = true; delivered = waited; noneLeft = not waits; looped = false; dropped = false }
+readEvents waited waits = record { dataRead = true; delivered = waited; noneLeft = not waits; looped = false; dropped = false; flushed = false; discarded = [] }
 
 -- RBR: the first byte that waits leaves; 0 where none waits: DIFFERENCES, "serial-empty-receiver".
 abbrev pub readRbr : Port → Out
@@ -157,7 +162,7 @@ writeLine p value = record { port = emptied p; reply = 0; sent = value ∷ []; e
 
 -- A byte is written in the loop: whether there is room for it.
 abbrev pub loopEvents : Bool → Events
-loopEvents fits = record { dataRead = false; delivered = false; noneLeft = false; looped = fits; dropped = not fits }
+loopEvents fits = record { dataRead = false; delivered = false; noneLeft = false; looped = fits; dropped = not fits; flushed = false; discarded = [] }
 
 -- In the loop it comes to the receiver. Where that is full the byte is dropped, and the guest is told nothing: DIFFERENCES,
 -- "serial-loop-overrun".
@@ -173,22 +178,25 @@ writeThr p value = cond (inLoop p) (writeLoop p value) (writeLine p value)
 
 -- The settings with one register written.
 abbrev pub putIer : Settings → ℕ → Settings
-putIer s v = record { ier = v; lcr = s .lcr; mcr = s .mcr; scr = s .scr; dll = s .dll; dlm = s .dlm }
+putIer s v = record { ier = v; lcr = s .lcr; mcr = s .mcr; scr = s .scr; dll = s .dll; dlm = s .dlm; fcr = s .fcr }
 
 abbrev pub putLcr : Settings → ℕ → Settings
-putLcr s v = record { ier = s .ier; lcr = v; mcr = s .mcr; scr = s .scr; dll = s .dll; dlm = s .dlm }
+putLcr s v = record { ier = s .ier; lcr = v; mcr = s .mcr; scr = s .scr; dll = s .dll; dlm = s .dlm; fcr = s .fcr }
 
 abbrev pub putMcr : Settings → ℕ → Settings
-putMcr s v = record { ier = s .ier; lcr = s .lcr; mcr = v; scr = s .scr; dll = s .dll; dlm = s .dlm }
+putMcr s v = record { ier = s .ier; lcr = s .lcr; mcr = v; scr = s .scr; dll = s .dll; dlm = s .dlm; fcr = s .fcr }
 
 abbrev pub putScr : Settings → ℕ → Settings
-putScr s v = record { ier = s .ier; lcr = s .lcr; mcr = s .mcr; scr = v; dll = s .dll; dlm = s .dlm }
+putScr s v = record { ier = s .ier; lcr = s .lcr; mcr = s .mcr; scr = v; dll = s .dll; dlm = s .dlm; fcr = s .fcr }
 
 abbrev pub putDll : Settings → ℕ → Settings
-putDll s v = record { ier = s .ier; lcr = s .lcr; mcr = s .mcr; scr = s .scr; dll = v; dlm = s .dlm }
+putDll s v = record { ier = s .ier; lcr = s .lcr; mcr = s .mcr; scr = s .scr; dll = v; dlm = s .dlm; fcr = s .fcr }
 
 abbrev pub putDlm : Settings → ℕ → Settings
-putDlm s v = record { ier = s .ier; lcr = s .lcr; mcr = s .mcr; scr = s .scr; dll = s .dll; dlm = v }
+putDlm s v = record { ier = s .ier; lcr = s .lcr; mcr = s .mcr; scr = s .scr; dll = s .dll; dlm = v; fcr = s .fcr }
+
+abbrev pub putFcr : Settings → ℕ → Settings
+putFcr s v = record { ier = s .ier; lcr = s .lcr; mcr = s .mcr; scr = s .scr; dll = s .dll; dlm = s .dlm; fcr = v }
 
 abbrev pub stores : Port → Settings → Out
 stores p s = becomes (withSettings p s)
@@ -212,18 +220,46 @@ readIir p =
     let waits = some (p .waiting) in
     replies (withReceiver p (afterIdentification ier (p .iir) waits) (p .lsr) (p .waiting)) (identification ier (p .iir) waits)
 
+-- ---- FCR
+
+-- 0x01, 0x08 and 0xc0 are remembered, and have no effect: DIFFERENCES, "serial-fifo-off" and "serial-trigger-level". The others are not
+-- kept by the chip either: 0x02 and 0x04 clear themselves, 0x30 is reserved.
+abbrev pub fcrStored : ℕ → ℕ
+fcrStored value = bitAnd value 0xc9
+
+-- FCR empties the receiver, in which these bytes waited.
+abbrev pub flushEvents : List ℕ → Events
+flushEvents bytes = record { dataRead = false; delivered = false; noneLeft = false; looped = false; dropped = false; flushed = true; discarded = bytes }
+
+-- The bytes that wait are thrown away: no data is ready, received data is not pending.
+abbrev pub flushes : Port → Out
+flushes p =
+    let iir = afterDataRead (p .settings .ier) (p .iir) false in
+    record {
+      port = withReceiver p iir (lsrAfterRead false (p .lsr)) [];
+      reply = 0;
+      sent = [];
+      events = flushEvents (p .waiting);
+      raises = 0;
+    }
+
+-- 0x02 empties the receiver, whether or not 0x01 is set with it: DIFFERENCES, "serial-fifo-empty".
+unfoldable pub writeFcr : Port → ℕ → Out
+writeFcr p value =
+    let kept = withSettings p (putFcr (p .settings) (fcrStored value)) in
+    cond (on value 0x02) (flushes kept) (becomes kept)
+
 -- ---- Each register: what a read of it does, and a write
 
 pub record Rule : Type 0 where
   pub read : Out
   pub write : ℕ → Out
 
--- FCR: nothing happens: DIFFERENCES, "serial-fifo-off", "serial-fifo-empty" and "serial-trigger-level". LSR, MSR and the reserved offsets
--- are not written: DIFFERENCES, "serial-read-only" and "serial-beyond".
+-- LSR, MSR and the reserved offsets are not written: DIFFERENCES, "serial-read-only" and "serial-beyond".
 abbrev pub rule : Port → Register → Rule
 rule p RBR-THR = record { read = readRbr p; write = writeThr p }
 rule p IER = record { read = replies p (p .settings .ier); write = writeIer p }
-rule p IIR-FCR = record { read = readIir p; write = λ v. becomes p }
+rule p IIR-FCR = record { read = readIir p; write = writeFcr p }
 rule p LCR = record { read = replies p (p .settings .lcr); write = λ v. stores p (putLcr (p .settings) v) }
 rule p MCR = record { read = replies p (p .settings .mcr); write = λ v. stores p (putMcr (p .settings) v) }
 rule p LSR = record { read = replies p (p .lsr); write = λ v. becomes p }

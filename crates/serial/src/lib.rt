@@ -1,5 +1,6 @@
 // A 16550 serial port in memory that its host lends, in place: nothing is copied, and any bytes are
 // some port. The host hands each access of the guest to these functions and acts on the answer.
+mod fcr;
 mod ier;
 mod iir;
 pub mod memory;
@@ -12,6 +13,7 @@ use common::answer::REFUSED;
 use memory::COUNT;
 use memory::DLL;
 use memory::DLM;
+use memory::FCR;
 use memory::IER;
 use memory::IIR;
 use memory::LCR;
@@ -58,7 +60,7 @@ fn make(regs: &mut Regs, pos: &mut Pos, told: u8)
     regs[MSR] = 0xb0;
     regs[SCR] = 0x00;
     regs[DLM] = 0x00;
-    regs[9] = 0;
+    regs[FCR] = 0;
     regs[10] = 0;
     regs[11] = 0;
     regs[12] = 0;
@@ -146,6 +148,9 @@ pub fn write(regs: &mut Regs, pos: &mut Pos, ring: &mut Ring, offset: u8, value:
         return ier::write(regs, pos, value);
     }
     match offset {
+        2 => {
+            return fcr::write(regs, pos, value);
+        }
         3 => {
             regs[LCR] = value;
             return 0;

@@ -6,7 +6,7 @@ ghost use mathlib.Core.Logic.{_↔_};
 ghost use mathlib.Core.Bool.{true};
 ghost use Rattle.serial.specs.Layout.{places, spareRegisters, freshSpareRegisters};
 
-// Registers 9 to 14 are spare.
+// Registers 10 to 14 are spare.
 pub type Regs = [u8; 16];
 
 // Where the first waiting byte lies and how many wait; two are spare.
@@ -36,8 +36,11 @@ pub const SCR: usize = 7;
 
 pub const DLM: usize = 8;
 
+// What is remembered of FCR.
+pub const FCR: usize = 9;
+
 // From here on the registers are spare, up to the one that tells the size.
-const SPARE: usize = 9;
+const SPARE: usize = 10;
 
 pub const SIZE: usize = 15;
 

@@ -18,7 +18,7 @@ abbrev pub readSays : Out → List ℕ
 readSays o = text "r " ++ digitsOf (readWord o % 256) ++ raisesSay (readWord o / oneRaise)
 
 abbrev pub writeSays : Out → List ℕ
-writeSays o = text "w " ++ sentSays (o .sent) ++ raisesSay (o .raises)
+writeSays o = text "w " ++ sentSays (o .sent) (o .events) ++ raisesSay (o .raises)
 
 abbrev pub inputSays : Input → List ℕ
 inputSays i = text "b " ++ takenSays (i .full) (i .taken) ++ raisesSay (i .raises)

@@ -5,45 +5,64 @@ use Prim.Native.Nat.{ℕ}
 use lib.ListN.{take}
 use Rattle.common.specs.Bytes.{bytesOf, valueOf}
 use Rattle.common.specs.Forms.{tooShort, trailing, version, tooMany}
-use Rattle.serial_form.specs.Form.{refused, reads, freshOthers, formOf, readBehind, readVersion2, readForm}
+use Rattle.serial.specs.Layout.{freshSpareRegisters}
+use Rattle.serial_form.specs.Form.{numberOf, formBy, formOf, refused, reads, noOthers, savedIn, countIn, start}
+use Rattle.serial_form.specs.Form.{readBehind, readVersion, readForm}
 
--- A fresh port's registers.
+-- A fresh port's first registers.
 abbrev nine : List ℕ
 nine = 0x0c ∷ 0x00 ∷ 0x01 ∷ 0x03 ∷ 0x08 ∷ 0x60 ∷ 0xb0 ∷ 0x00 ∷ 0x00 ∷ []
 
-abbrev fresh : List ℕ
-fresh = nine ++ freshOthers
+-- A port of 16 whose guest has written 0xc1 to FCR.
+abbrev small : List ℕ
+small = nine ++ (0xc1 ∷ (freshSpareRegisters ++ (0xf4 ∷ [])))
 
 -- Two bytes wait.
 abbrev form : List ℕ
-form = 2 ∷ 0 ∷ 0x0c ∷ 0x00 ∷ 0x01 ∷ 0x03 ∷ 0x08 ∷ 0x60 ∷ 0xb0 ∷ 0x00 ∷ 0x00 ∷ 2 ∷ 0 ∷ 0x68 ∷ 0x69 ∷ []
+form = 3 ∷ 0 ∷ 0x0c ∷ 0x00 ∷ 0x01 ∷ 0x03 ∷ 0x08 ∷ 0x60 ∷ 0xb0 ∷ 0x00 ∷ 0x00 ∷ 0xc1 ∷ 0xf4 ∷ 2 ∷ 0 ∷ 0x68 ∷ 0x69 ∷ []
 
-written : formOf fresh (0x68 ∷ 0x69 ∷ []) ≡ form
-unfolding formOf bytesOf
+written : formOf small (0x68 ∷ 0x69 ∷ []) ≡ form
+unfolding formBy numberOf bytesOf
 written = refl
 
-read : readForm form ≡ reads fresh (0x68 ∷ 0x69 ∷ [])
-unfolding readForm readVersion2 readBehind valueOf
+read : readForm form ≡ reads small (0x68 ∷ 0x69 ∷ [])
+unfolding readForm readVersion readBehind numberOf savedIn countIn start valueOf
 read = refl
 
-a-byte-missing : readForm (take 14 form) ≡ refused tooShort
-unfolding readForm readVersion2 readBehind valueOf
+a-byte-missing : readForm (take 16 form) ≡ refused tooShort
+unfolding readForm readVersion readBehind numberOf savedIn countIn start valueOf
 a-byte-missing = refl
 
 a-byte-more : readForm (form ++ (0 ∷ [])) ≡ refused trailing
-unfolding readForm readVersion2 readBehind valueOf
+unfolding readForm readVersion readBehind numberOf savedIn countIn start valueOf
 a-byte-more = refl
 
+-- That bytes are missing too is not said.
+seventeen : readForm (3 ∷ 0 ∷ (nine ++ (0xc1 ∷ 0xf4 ∷ 17 ∷ 0 ∷ []))) ≡ refused tooMany
+unfolding readForm readVersion readBehind numberOf savedIn countIn start valueOf
+seventeen = refl
+
+-- ---- Version 2
+
+old : readForm (2 ∷ 0 ∷ (nine ++ (2 ∷ 0 ∷ 0x68 ∷ 0x69 ∷ []))) ≡ reads (nine ++ noOthers) (0x68 ∷ 0x69 ∷ [])
+unfolding readForm readVersion readBehind numberOf savedIn countIn start valueOf
+old = refl
+
+sixty-five : readForm (2 ∷ 0 ∷ (nine ++ (65 ∷ 0 ∷ []))) ≡ refused tooMany
+unfolding readForm readVersion readBehind numberOf savedIn countIn start valueOf
+sixty-five = refl
+
+-- ---- Other versions
+
 version-1 : readForm (1 ∷ 0 ∷ nine) ≡ refused version
-unfolding readForm valueOf
+unfolding readForm numberOf valueOf
 version-1 = refl
 
--- The version stands lowest byte first.
-version-512 : readForm (0 ∷ 2 ∷ nine) ≡ refused version
-unfolding readForm valueOf
-version-512 = refl
+version-4 : readForm (4 ∷ 0 ∷ nine) ≡ refused version
+unfolding readForm numberOf valueOf
+version-4 = refl
 
--- That bytes are missing too is not said.
-sixty-five : readForm (2 ∷ 0 ∷ (nine ++ (65 ∷ 0 ∷ []))) ≡ refused tooMany
-unfolding readForm readVersion2 readBehind valueOf
-sixty-five = refl
+-- The version stands lowest byte first.
+version-768 : readForm (0 ∷ 3 ∷ nine) ≡ refused version
+unfolding readForm numberOf valueOf
+version-768 = refl

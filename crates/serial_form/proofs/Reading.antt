@@ -6,55 +6,64 @@ use native.Mathlib.Numerals.{add-one}
 use native.Mathlib.Omega.{arith}
 use lib.ListN.{length, getD, take, drop}
 use lib.Seq.{drop-cons}
-use borrow.Author.Tests.{lt-ltb, le-ltb, ne-eqb}
+use borrow.Author.Tests.{lt-ltb, le-ltb, eq-eqb, ne-eqb}
 use Rattle.common.specs.Bytes.{valueOf}
 use Rattle.common.specs.Forms.{tooShort, trailing, version, tooMany}
-use Rattle.serial_form.specs.Form.{refused, reads, current, size, versionIn, savedIn, countIn, readBehind, readVersion2, readForm}
+use Rattle.serial.specs.Layout.{sizeOf}
+use Rattle.serial_form.specs.Form.{Version, version2, version3, numberOf, refused, reads, versionIn, savedIn, countIn, start}
+use Rattle.serial_form.specs.Form.{readBehind, readVersion, readForm}
+use Rattle.serial_form.specs.Outcomes.{Is}
 
 -- ---- Behind the number
 
-module _ (n : ℕ) (form : List ℕ) where
-  pub too-many : size < n → readBehind n form ≡ refused tooMany
+module _ (saved : List ℕ) (n : ℕ) (bytes : List ℕ) where
+  pub too-many : sizeOf saved < n → readBehind saved n bytes ≡ refused tooMany
   unfolding readBehind
   too-many h = rw (lt-ltb _ _ h)
 
-  pub too-few : n ≤ size → length form < 13 + n → readBehind n form ≡ refused tooShort
+  pub too-few : n ≤ sizeOf saved → length bytes < n → readBehind saved n bytes ≡ refused tooShort
   unfolding readBehind
   too-few h l = rw (le-ltb _ _ h, lt-ltb _ _ l)
 
-  pub left-over : n ≤ size → 13 + n < length form → readBehind n form ≡ refused trailing
+  pub left-over : n ≤ sizeOf saved → n < length bytes → readBehind saved n bytes ≡ refused trailing
   unfolding readBehind
-  left-over h l = let m : 13 + n ≤ length form = omega arith in rw (le-ltb _ _ h, le-ltb _ _ m, lt-ltb _ _ l)
+  left-over h l = let m : n ≤ length bytes = omega arith in rw (le-ltb _ _ h, le-ltb _ _ m, lt-ltb _ _ l)
 
-  pub none-left : n ≤ size → length form ≡ 13 + n → readBehind n form ≡ reads (savedIn form) (drop 13 form)
+  pub none-left : n ≤ sizeOf saved → length bytes ≡ n → readBehind saved n bytes ≡ reads saved bytes
   unfolding readBehind
   none-left h e =
-      let m : 13 + n ≤ length form = omega arith in
-      let l : length form ≤ 13 + n = omega arith in
+      let m : n ≤ length bytes = omega arith in
+      let l : length bytes ≤ n = omega arith in
       rw (le-ltb _ _ h, le-ltb _ _ m, le-ltb _ _ l)
 
 -- ---- The version
 
-module _ (form : List ℕ) where
-  pub no-count : length form < 13 → readVersion2 form ≡ refused tooShort
-  unfolding readVersion2
-  no-count h = rw (lt-ltb _ _ h)
+pub not-both : {n : ℕ} → n ≡ numberOf version2 → n ≡ numberOf version3 → ⊥
+unfolding numberOf
+not-both e f = omega arith
 
-  pub counted : 13 ≤ length form → readVersion2 form ≡ readBehind (countIn form) form
-  unfolding readVersion2
-  counted h = rw (le-ltb _ _ h)
+module _ (form : List ℕ) where
+  pub no-count : (v : Version) → length form < start v → readVersion v form ≡ refused tooShort
+  unfolding readVersion
+  no-count v h = rw (lt-ltb _ _ h)
+
+  pub counted : (v : Version) → start v ≤ length form
+      → readVersion v form ≡ readBehind (savedIn v form) (countIn v form) (drop (start v) form)
+  unfolding readVersion
+  counted v h = rw (le-ltb _ _ h)
 
   pub no-version : length form < 2 → readForm form ≡ refused tooShort
   unfolding readForm
   no-version h = rw (lt-ltb _ _ h)
 
-  pub known-version : 2 ≤ length form → versionIn form ≡ current → readForm form ≡ readVersion2 form
+  pub known-version : (v : Version) → 2 ≤ length form → Is v form → readForm form ≡ readVersion v form
   unfolding readForm
-  known-version h e = rw (le-ltb _ _ h, e)
+  known-version version3 h e = rw (le-ltb _ _ h, eq-eqb _ _ e)
+  known-version version2 h e = rw (le-ltb _ _ h, ne-eqb _ _ (not-both e), eq-eqb _ _ e)
 
-  pub other-version : 2 ≤ length form → (versionIn form ≡ current → ⊥) → readForm form ≡ refused version
+  pub other-version : 2 ≤ length form → ((v : Version) → Is v form → ⊥) → readForm form ≡ refused version
   unfolding readForm
-  other-version h d = rw (le-ltb _ _ h, ne-eqb _ _ d)
+  other-version h d = rw (le-ltb _ _ h, ne-eqb _ _ (d version3), ne-eqb _ _ (d version2))
 
 -- ---- Numbers as the code finds them
 
@@ -68,5 +77,10 @@ module _ (form : List ℕ) {n : ℕ} where
   pub version-found : 2 ≤ length form → n ≡ valueOf (getD form 0 0 ∷ getD form 1 0 ∷ []) → n ≡ versionIn form
   version-found h e = e ∙ sym (ap valueOf (two-there form 0 (omega arith)))
 
-  pub count-found : 13 ≤ length form → n ≡ valueOf (getD form 11 0 ∷ getD form 12 0 ∷ []) → n ≡ countIn form
-  count-found h e = e ∙ sym (ap valueOf (two-there form 11 (omega arith)))
+  pub count-found-2 : 13 ≤ length form → n ≡ valueOf (getD form 11 0 ∷ getD form 12 0 ∷ []) → n ≡ countIn version2 form
+  unfolding countIn
+  count-found-2 h e = e ∙ sym (ap valueOf (two-there form 11 (omega arith)))
+
+  pub count-found : 15 ≤ length form → n ≡ valueOf (getD form 13 0 ∷ getD form 14 0 ∷ []) → n ≡ countIn version3 form
+  unfolding countIn
+  count-found h e = e ∙ sym (ap valueOf (two-there form 13 (omega arith)))

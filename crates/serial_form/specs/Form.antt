@@ -1,32 +1,31 @@
--- A saved serial port as bytes: the version at 0, nine registers at 2, how many bytes wait at 11, these bytes at 13. The two numbers have
--- two bytes each, lowest first. The other registers, all 0, are left out: the spare ones and the one that tells the size, which is 64.
-use Prim.Native.Nat.{ℕ, _+_}
+-- A saved serial port as bytes: the version at 0, registers 0 to 9 at 2, the register that tells the size at 12, how many bytes wait at 13,
+-- these bytes at 15. The two numbers have two bytes each, lowest first. The spare registers, all 0, are left out.
+use Prim.Native.Nat.{ℕ}
 use mathlib.Core.Bool.{cond}
 use mathlib.Core.List.{List, [], _∷_, _++_}
 use lib.ListN.{length, take, drop}
 use lib.Dec.{ltb, eqb}
 use Rattle.common.specs.Bytes.{bytesOf, valueOf}
 use Rattle.common.specs.Forms.{Reason, tooShort, trailing, version, tooMany}
+use Rattle.serial.specs.Layout.{sizeOf, freshSpareRegisters}
 
--- The version that is written and read.
-abbrev pub current : ℕ
-current = 2
+-- The versions that are read. Version 2 was written before FCR was remembered, and only of ports of 64.
+pub data Version : Type 0 where
+  version2 version3 : Version
 
--- It is the form of a port in which 64 bytes may wait.
-abbrev pub size : ℕ
-size = 64
-
--- The registers that it does not have.
-abbrev pub others : List ℕ → List ℕ
-others saved = drop 9 saved
-
-abbrev pub freshOthers : List ℕ
-freshOthers = 0 ∷ 0 ∷ 0 ∷ 0 ∷ 0 ∷ 0 ∷ 0 ∷ []
+unfoldable pub numberOf : Version → ℕ
+numberOf version2 = 2
+numberOf version3 = 3
 
 -- ---- Writing
 
-unfoldable pub formOf : List ℕ → List ℕ → List ℕ
-formOf saved waiting = bytesOf 2 current ++ (take 9 saved ++ (bytesOf 2 (length waiting) ++ waiting))
+-- A form of a version, of the registers that it has.
+unfoldable pub formBy : Version → List ℕ → List ℕ → List ℕ
+formBy v registers waiting = bytesOf 2 (numberOf v) ++ (registers ++ (bytesOf 2 (length waiting) ++ waiting))
+
+-- Version 3 is written. It has all registers but the spare ones.
+abbrev pub formOf : List ℕ → List ℕ → List ℕ
+formOf saved waiting = formBy version3 (take 10 saved ++ drop 15 saved) waiting
 
 -- ---- Reading
 
@@ -38,29 +37,40 @@ pub data Read : Type 0 where
 abbrev pub versionIn : List ℕ → ℕ
 versionIn form = valueOf (take 2 form)
 
-abbrev pub registersIn : List ℕ → List ℕ
-registersIn form = take 9 (drop 2 form)
+-- Version 2 has registers 0 to 8. The others are 0: nothing is remembered of FCR, and the size is 64.
+abbrev pub noOthers : List ℕ
+noOthers = 0 ∷ (freshSpareRegisters ++ (0 ∷ []))
 
-abbrev pub savedIn : List ℕ → List ℕ
-savedIn form = registersIn form ++ freshOthers
+unfoldable pub savedIn : Version → List ℕ → List ℕ
+savedIn version2 form = take 9 (drop 2 form) ++ noOthers
+savedIn version3 form = take 10 (drop 2 form) ++ (freshSpareRegisters ++ take 1 (drop 12 form))
 
-abbrev pub countIn : List ℕ → ℕ
-countIn form = valueOf (take 2 (drop 11 form))
+unfoldable pub countIn : Version → List ℕ → ℕ
+countIn version2 form = valueOf (take 2 (drop 11 form))
+countIn version3 form = valueOf (take 2 (drop 13 form))
 
--- Behind the number n bytes wait, no fewer and no more.
-unfoldable pub readBehind : ℕ → List ℕ → Read
-readBehind n form =
-    cond (ltb size n) (refused tooMany)
-    (cond (ltb (length form) (13 + n)) (refused tooShort)
-    (cond (ltb (13 + n) (length form)) (refused trailing)
-    (reads (savedIn form) (drop 13 form))))
+-- The waiting bytes are the last, from here on.
+unfoldable pub start : Version → ℕ
+start version2 = 13
+start version3 = 15
 
-unfoldable pub readVersion2 : List ℕ → Read
-readVersion2 form = cond (ltb (length form) 13) (refused tooShort) (readBehind (countIn form) form)
+-- n bytes wait: no more than the port's size, and just those that are there.
+unfoldable pub readBehind : List ℕ → ℕ → List ℕ → Read
+readBehind saved n bytes =
+    cond (ltb (sizeOf saved) n) (refused tooMany)
+    (cond (ltb (length bytes) n) (refused tooShort)
+    (cond (ltb n (length bytes)) (refused trailing)
+    (reads saved bytes)))
+
+unfoldable pub readVersion : Version → List ℕ → Read
+readVersion v form =
+    cond (ltb (length form) (start v)) (refused tooShort)
+    (readBehind (savedIn v form) (countIn v form) (drop (start v) form))
 
 -- No other version is read: version 1, which knew no waiting bytes, neither.
 unfoldable pub readForm : List ℕ → Read
 readForm form =
     cond (ltb (length form) 2) (refused tooShort)
-    (cond (eqb (versionIn form) current) (readVersion2 form)
-    (refused version))
+    (cond (eqb (versionIn form) (numberOf version3)) (readVersion version3 form)
+    (cond (eqb (versionIn form) (numberOf version2)) (readVersion version2 form)
+    (refused version)))

@@ -6,32 +6,39 @@ use serial::memory::Ring;
 use serial::memory::are_spares_zero;
 use serial::memory::regs_len;
 use serial::memory::ring_len;
+use serial::waiting::size;
 ghost use mathlib.Core.Path.{_≡_};
-ghost use mathlib.Core.Logic.{_↔_};
-ghost use mathlib.Core.Bool.{true};
 ghost use mathlib.Core.List.{[], _∷_};
 ghost use Prim.Native.Nat.{_+_, _≤_};
 ghost use lib.ListN.{length};
 ghost use lib.Seq.{sets};
 ghost use Rattle.common.specs.Bytes.{bytesOf, valueOf};
-ghost use Rattle.serial_form.specs.Form.{others, freshOthers, formOf, readForm, readVersion2, readBehind};
+ghost use Rattle.serial_form.specs.Form.{version2, version3, formOf, readForm, readVersion, readBehind};
 ghost use Rattle.serial_form.specs.Calls.{Encodes, Decodes};
 
-// The version that is written and read.
-const CURRENT: usize = 2;
+// The version that is written, and the one before it, which is read too.
+const CURRENT: usize = 3;
 
-// The form is of ports in which so many bytes may wait.
-const SIZE: usize = 64;
+const BEFORE: usize = 2;
 
 // ---- Where the parts of a form begin
 
 const REGISTERS: usize = 2;
 
-const NINE: usize = 9;
+const SIZE: usize = 12;
 
-const COUNT: usize = 11;
+const COUNT: usize = 13;
 
-const WAITING: usize = 13;
+const WAITING: usize = 15;
+
+// ---- And in version 2
+
+const COUNT_2: usize = 11;
+
+const WAITING_2: usize = 13;
+
+// The registers before the spare ones.
+const TEN: usize = 10;
 
 // ---- The answers that refuse a form
 
@@ -79,39 +86,29 @@ fn number(low: u8, high: u8) -> usize
 
 // Writes the form; there is room for it.
 fn write(saved: &Regs, waiting: &[u8], form: &mut [u8])
-    requires { ⌜ 13 + length (now waiting) ≤ length (now form) ⌝ }
+    requires { ⌜ 15 + length (now waiting) ≤ length (now form) ⌝ }
     ensures { λ r. ⌜ now (form .exit) ≡ sets (now (form .entry)) 0 (formOf (now (saved .entry)) (now (waiting .entry))) ⌝ }
 {
     regs_len(saved);
     put_number(form, 0, CURRENT);
     let registers: &[u8] = saved;
-    put(form, REGISTERS, &registers[0..NINE]);
+    put(form, REGISTERS, &registers[0..TEN]);
+    put(form, SIZE, &registers[memory::SIZE..]);
     put_number(form, COUNT, waiting.len());
     put(form, WAITING, waiting);
 }
 
-// The registers that the form does not have are 0: the one that tells the size, and the spare ones.
-fn are_others_zero(saved: &Regs) -> bool
-    ensures { λ r. ⌜ (r ≡ true) ↔ (others (now (saved .entry)) ≡ freshOthers) ⌝ }
-{
-    regs_len(saved);
-    if saved[memory::SIZE] != 0 {
-        return false;
-    }
-    are_spares_zero(saved)
-}
-
-// Answers how many bytes the form has, and writes it if there is room for them. More bytes than may wait are refused,
-// and a register other than 0 that the form does not have.
+// Answers how many bytes the form has, and writes it if there is room for them. More bytes than the port's size are refused,
+// and a spare register other than 0.
 pub fn encode(saved: &Regs, waiting: &[u8], form: &mut [u8]) -> u32
     ensures { λ r. ⌜ Encodes (now (saved .entry)) (now (waiting .entry)) (now (form .entry)) (now (form .exit)) r ⌝ }
 {
     regs_len(saved);
     let n = waiting.len();
-    if SIZE < n {
+    if (size(saved) as usize) < n {
         return TOO_MANY;
     }
-    if !are_others_zero(saved) {
+    if !are_spares_zero(saved) {
         return SPARE;
     }
     let len = WAITING + n;
@@ -124,42 +121,76 @@ pub fn encode(saved: &Regs, waiting: &[u8], form: &mut [u8]) -> u32
 
 // ---- Reading
 
-// Behind the number n bytes wait.
-fn decode_behind(n: usize, form: &[u8], saved: &mut Regs, waiting: &mut Ring) -> u32
+// The form has these registers and says that n bytes wait; `bytes` are those that it has.
+fn decode_behind(
+    registers: &Regs,
+    n: usize,
+    bytes: &[u8],
+    saved: &mut Regs,
+    waiting: &mut Ring,
+) -> u32
     ensures { λ r. ⌜
-        Decodes (readBehind n (now (form .entry)))
+        Decodes (readBehind (now (registers .entry)) n (now (bytes .entry)))
         (now (saved .entry)) (now (waiting .entry)) (now (saved .exit)) (now (waiting .exit)) r
         ⌝ }
 {
-    if SIZE < n {
-        return TOO_MANY;
-    }
-    let end = WAITING + n;
-    if form.len() < end {
-        return TOO_SHORT;
-    }
-    if end < form.len() {
-        return TRAILING;
-    }
+    regs_len(registers);
     regs_len(saved);
     ring_len(waiting);
-    put(saved, 0, &form[REGISTERS..COUNT]);
-    let others = [0u8; 7];
-    put(saved, NINE, &others);
-    put(waiting, 0, &form[WAITING..]);
+    if (size(registers) as usize) < n {
+        return TOO_MANY;
+    }
+    if bytes.len() < n {
+        return TOO_SHORT;
+    }
+    if n < bytes.len() {
+        return TRAILING;
+    }
+    put(saved, 0, registers);
+    put(waiting, 0, bytes);
     n as u32
 }
 
+// A port of 64, of whose FCR nothing is remembered.
 fn decode_version_2(form: &[u8], saved: &mut Regs, waiting: &mut Ring) -> u32
     ensures { λ r. ⌜
-        Decodes (readVersion2 (now (form .entry)))
+        Decodes (readVersion version2 (now (form .entry)))
+        (now (saved .entry)) (now (waiting .entry)) (now (saved .exit)) (now (waiting .exit)) r
+        ⌝ }
+{
+    if form.len() < WAITING_2 {
+        return TOO_SHORT;
+    }
+    let mut registers: Regs = [0u8; 16];
+    put(&mut registers, 0, &form[REGISTERS..COUNT_2]);
+    decode_behind(
+        &registers,
+        number(form[COUNT_2], form[COUNT_2 + 1]),
+        &form[WAITING_2..],
+        saved,
+        waiting,
+    )
+}
+
+fn decode_version_3(form: &[u8], saved: &mut Regs, waiting: &mut Ring) -> u32
+    ensures { λ r. ⌜
+        Decodes (readVersion version3 (now (form .entry)))
         (now (saved .entry)) (now (waiting .entry)) (now (saved .exit)) (now (waiting .exit)) r
         ⌝ }
 {
     if form.len() < WAITING {
         return TOO_SHORT;
     }
-    decode_behind(number(form[COUNT], form[COUNT + 1]), form, saved, waiting)
+    let mut registers: Regs = [0u8; 16];
+    registers[memory::SIZE] = form[SIZE];
+    put(&mut registers, 0, &form[REGISTERS..SIZE]);
+    decode_behind(
+        &registers,
+        number(form[COUNT], form[COUNT + 1]),
+        &form[WAITING..],
+        saved,
+        waiting,
+    )
 }
 
 // Answers how many bytes wait, or why the form is refused; then nothing is written.
@@ -173,8 +204,11 @@ pub fn decode(form: &[u8], saved: &mut Regs, waiting: &mut Ring) -> u32
         return TOO_SHORT;
     }
     let version = number(form[0], form[1]);
-    if version != CURRENT {
-        return VERSION;
+    if version == CURRENT {
+        return decode_version_3(form, saved, waiting);
     }
-    decode_version_2(form, saved, waiting)
+    if version == BEFORE {
+        return decode_version_2(form, saved, waiting);
+    }
+    VERSION
 }

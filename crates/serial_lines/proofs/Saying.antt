@@ -44,7 +44,7 @@ made size regs pos word e m = (rw e at m) .1
 pub nine : (line : List ℕ) {a b c d e f g h i : ℕ} → a ≡ byteAt line 8 → b ≡ byteAt line 14 → c ≡ byteAt line 17 → d ≡ byteAt line 20
     → e ≡ byteAt line 26
     → f ≡ byteAt line 23 → g ≡ byteAt line 29 → h ≡ byteAt line 32 → i ≡ byteAt line 11 → (waiting : List ℕ)
-    → savedOf (a ∷ b ∷ c ∷ d ∷ e ∷ f ∷ g ∷ h ∷ i ∷ (freshSpareRegisters ++ (0 ∷ []))) waiting ≡ givenIn line waiting
+    → savedOf (a ∷ b ∷ c ∷ d ∷ e ∷ f ∷ g ∷ h ∷ i ∷ 0 ∷ (freshSpareRegisters ++ (0 ∷ []))) waiting ≡ givenIn line waiting
 unfolding savedOf portOf
 nine line p q r s t u v w x waiting = rw (p, q, r, s, t, u, v, w, x) refl
 

@@ -49,7 +49,8 @@ pub data Asks : Type 0 where
 abbrev pub asksWith : List ℕ → (List ℕ → Asks) → Asks
 asksWith digits ask = cond (areBytes digits) (ask (bytesOf digits)) nothing
 
--- The port of `restore DL DH IER IIR LCR LSR MCR MSR SCR HH..`. No size stands there: it is 64, as of a port that `serial` names.
+-- The port of `restore DL DH IER IIR LCR LSR MCR MSR SCR HH..`. Neither FCR nor a size stands there: they are 0 and 64, as of a port that
+-- `serial` names.
 abbrev pub givenIn : List ℕ → List ℕ → Port
 givenIn line bytes = record {
   settings = record {
@@ -59,6 +60,7 @@ givenIn line bytes = record {
     scr = byteAt line 32;
     dll = byteAt line 8;
     dlm = byteAt line 11;
+    fcr = 0;
   };
   iir = byteAt line 17;
   lsr = byteAt line 23;

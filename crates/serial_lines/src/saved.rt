@@ -100,8 +100,8 @@ pub fn restore_given(
     restore(regs, pos, ring, &given, &bytes[..count], out, at)
 }
 
-// The registers of such a line, in the order in which they lie in memory; the spare ones are 0, and
-// so is the one that tells the size: 64.
+// The registers of such a line, in the order in which they lie in memory; FCR and the spare ones
+// are 0, and so is the one that tells the size: 64.
 pub fn regs_in(line: &[u8]) -> Regs
     ensures { λ r. ⌜ ((waiting : List ℕ) → savedOf r waiting ≡ givenIn (now (line .entry)) waiting) ⌝ }
     ensures { λ r. ⌜ spareRegisters r ≡ freshSpareRegisters ⌝ }

@@ -26,7 +26,7 @@ use Rattle.serial_saved.proofs.Bringing.{too-many, enough}
 pub restore-word : (reachable : Bool) (o : Restore) → let word = restoreWord reachable o in
     (word / 0x4_0000 % 2 ≡ cond reachable 1 0) × ((word / 0x1_0000 % 2 ≡ cond (o .refused) 1 0) × (word / oneRaise ≡ o .raises))
 restore-word reachable o =
-    let p = parts 0 (o .refused) false reachable false false false false false (o .raises) (restoreWord reachable o) (omega arith) (omega arith) in
+    let p = parts 0 (o .refused) false reachable false false false false false false (o .raises) (restoreWord reachable o) (omega arith) (omega arith) in
     (p .reachable, (p .refused, p .raises))
 
 one : (t : Bool) → (_≡_ {A = ℕ} (cond t 1 0) 1) ↔ (t ≡ true)

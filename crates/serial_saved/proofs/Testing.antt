@@ -11,7 +11,7 @@ use borrow.Author.Tests.{ne-eqb}
 use Rattle.common.specs.Bytes.{Bytes}
 use Rattle.common.specs.Lists.{some}
 use Rattle.serial.specs.Layout.{sizeOf, portOf, spareRegisters, freshSpareRegisters}
-use Rattle.serial.specs.Port.{isSize}
+use Rattle.serial.specs.Port.{isSize, fcrStored}
 use Rattle.interrupts.specs.Interrupts.{settled}
 use Rattle.serial_saved.specs.Saved.{savedOf}
 use Rattle.serial_saved.specs.Calls.{ReachableSaved}
@@ -61,6 +61,10 @@ module _ (saved waiting : List ℕ) where
   unfolding savedOf portOf
   wide-ier h = not-so (λ k. omega (arith, k .port .settings .ier))
 
+  pub other-fcr : (fcrStored (getD saved 9 0) ≡ getD saved 9 0 → ⊥) → No
+  unfolding savedOf portOf
+  other-fcr d = not-so (λ k. d (k .port .settings .fcr))
+
   pub other-msr : (getD saved 6 0 ≡ 0xb0 → ⊥) → No
   unfolding savedOf portOf
   other-msr d = not-so (λ k. d (k .port .msr))
@@ -86,11 +90,11 @@ module _ (saved waiting : List ℕ) where
 
   -- all but the last hold: that decides
   pub decided : {z : Bool} {status iir : ℕ} → Bytes saved → Bytes waiting → length waiting ≤ sizeOf saved → getD saved 1 0 < 16
-      → getD saved 6 0 ≡ 0xb0
+      → fcrStored (getD saved 9 0) ≡ getD saved 9 0 → getD saved 6 0 ≡ 0xb0
       → status ≡ cond (some waiting) 0x61 0x60 → getD saved 5 0 ≡ status → iir ≡ right → getD saved 2 0 ≡ iir → isSize (sizeOf saved) ≡ true
       → (z ≡ true) ↔ (spareRegisters saved ≡ freshSpareRegisters) → (z ≡ true) ↔ ReachableSaved saved waiting
   unfolding savedOf portOf
-  decided b w f ier msr status lsr e iir made s = (
+  decided b w f ier fcr msr status lsr e iir made s = (
     λ z. record {
       made = made;
       sparesZero = s .0 z;
@@ -102,6 +106,7 @@ module _ (saved waiting : List ℕ) where
           scr = byte-at saved b 7;
           dll = byte-at saved b 0;
           dlm = byte-at saved b 8;
+          fcr = fcr;
         };
         iir = iir ∙ e ∙ ap (settled (getD saved 1 0) (getD saved 2 0)) (sym (some-is waiting));
         lsr = lsr ∙ status;

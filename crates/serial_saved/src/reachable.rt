@@ -1,5 +1,6 @@
 // Whether a run from a fresh port can have come to what was saved, clause by clause.
 use serial::memory;
+use serial::memory::FCR;
 use serial::memory::IER;
 use serial::memory::IIR;
 use serial::memory::LSR;
@@ -45,8 +46,12 @@ pub fn is_reachable(saved: &Regs, bytes: &[u8]) -> bool
     all_bytes(bytes);
     let ier = saved[IER];
     let iir = saved[IIR];
+    let fcr = saved[FCR];
     let n = bytes.len();
     if 16 <= ier {
+        return false;
+    }
+    if fcr & 0xc9 != fcr {
         return false;
     }
     if saved[MSR] != 0xb0 {

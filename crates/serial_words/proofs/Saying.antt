@@ -7,7 +7,7 @@ use native.Mathlib.Nat.{mod-mod}
 use native.Mathlib.Omega.{arith}
 use borrow.Author.Tests.{lt-ltb, le-ltb, eq-eqb, ne-eqb}
 use lib.ListN.{getD, take}
-use Rattle.common.specs.Answer.{sentBit, oneRaise}
+use Rattle.common.specs.Answer.{refusedBit, sentBit, flushedBit, oneRaise}
 use Rattle.common.specs.Lists.{some}
 use Rattle.ring.specs.Ring.{queue}
 use Rattle.ring.proofs.Laws.{queue-length, queue-round, queue-split}
@@ -23,11 +23,16 @@ use Rattle.serial_words.specs.Said.{bytesSay, nextByte, registersSay, wa
 -- ---- The parts of a word
 
 module _ {out out′ : List ℕ} {at r : ℕ} (n : ℕ) where
-  pub none-sent : n / sentBit % 2 ≡ 0 → Puts out at (text "--") out′ r → Puts out at (sentPart n) out′ r
-  none-sent h p = rw (eq-eqb (n / sentBit % 2) 0 h) p
+  pub thrown-away : {o₁ : List ℕ} {a : ℕ} → n / flushedBit % 2 ≡ 1 → Puts out at (text "-") o₁ a → Puts o₁ a (decimalOf (n % refusedBit)) out′ r
+      → Puts out at (sentPart n) out′ r
+  thrown-away h p q = rw (eq-eqb (n / flushedBit % 2) 1 h) (both p q)
 
-  pub one-sent : (n / sentBit % 2 ≡ 0 → ⊥) → Puts out at (digitsOf (n % 256)) out′ r → Puts out at (sentPart n) out′ r
-  one-sent h p = rw (ne-eqb (n / sentBit % 2) 0 h) p
+  module _ (f : n / flushedBit % 2 ≡ 1 → ⊥) where
+    pub none-sent : n / sentBit % 2 ≡ 0 → Puts out at (text "--") out′ r → Puts out at (sentPart n) out′ r
+    none-sent h p = rw (ne-eqb (n / flushedBit % 2) 1 f, eq-eqb (n / sentBit % 2) 0 h) p
+
+    pub one-sent : (n / sentBit % 2 ≡ 0 → ⊥) → Puts out at (digitsOf (n % 256)) out′ r → Puts out at (sentPart n) out′ r
+    one-sent h p = rw (ne-eqb (n / flushedBit % 2) 1 f, ne-eqb (n / sentBit % 2) 0 h) p
 
   pub some-taken : n < 0x1_0000 → Puts out at (decimalOf n) out′ r → Puts out at (takenPart n) out′ r
   some-taken h p = rw (lt-ltb n 0x1_0000 h) p

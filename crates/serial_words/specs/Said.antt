@@ -4,7 +4,7 @@ use mathlib.Core.Bool.{Bool, cond}
 use mathlib.Core.List.{List, [], _∷_, _++_}
 use lib.ListN.{length}
 use Rattle.common.specs.Lists.{some}
-use Rattle.serial.specs.Port.{Port}
+use Rattle.serial.specs.Port.{Port, Events}
 use Rattle.words.specs.Decimal.{decimalOf}
 use Rattle.words.specs.Hex.{digitsOf}
 use Rattle.words.specs.Text.{text}
@@ -13,10 +13,18 @@ use Rattle.words.specs.Text.{text}
 abbrev pub raisesSay : ℕ → List ℕ
 raisesSay raises = text " " ++ decimalOf raises ++ text "\n"
 
--- After a write: the byte that was sent, or that there was none.
-abbrev pub sentSays : List ℕ → List ℕ
-sentSays [] = text "--"
-sentSays (byte ∷ rest) = digitsOf byte
+-- The byte that was sent, or that there was none.
+abbrev pub byteSays : List ℕ → List ℕ
+byteSays [] = text "--"
+byteSays (byte ∷ rest) = digitsOf byte
+
+-- How many bytes were thrown away, with a `-` before it, so that no byte is told so.
+abbrev pub thrownSays : List ℕ → List ℕ
+thrownSays thrown = text "-" ++ decimalOf (length thrown)
+
+-- After a write: the byte that was sent; where FCR emptied the receiver, what was thrown away.
+abbrev pub sentSays : List ℕ → Events → List ℕ
+sentSays sent e = cond (e .flushed) (thrownSays (e .discarded)) (byteSays sent)
 
 -- After an input: how many bytes were taken, or that there was no room for one.
 abbrev pub takenSays : Bool → ℕ → List ℕ

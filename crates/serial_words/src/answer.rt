@@ -1,4 +1,5 @@
 // The parts of the word that a call of the port answers.
+use common::answer::FLUSHED;
 use common::answer::ONE_RAISE;
 use common::answer::REACHABLE;
 use common::answer::REFUSED;
@@ -12,12 +13,16 @@ ghost use Rattle.words.specs.Put.{Puts};
 ghost use Rattle.serial_words.specs.Inside.{sentPart, takenPart, broughtPart};
 ghost use Rattle.serial_words.specs.Said.{raisesSay};
 
-// The byte that was sent by a write, of which `wrote` is the word.
+// The byte that was sent by a write, of which `wrote` is the word, or how many bytes it threw away.
 pub fn put_sent(out: &mut Block, at: usize, wrote: u32) -> usize
-    requires { ⌜ at + 2 ≤ 65536 ⌝ }
+    requires { ⌜ at + 21 ≤ 65536 ⌝ }
     ensures { λ r. ⌜ Puts (now (out .entry)) at (sentPart wrote) (now (out .exit)) r ⌝ }
-    ensures { λ r. ⌜ r ≤ at + 2 ⌝ }
+    ensures { λ r. ⌜ r ≤ at + 21 ⌝ }
 {
+    if wrote / FLUSHED % 2 == 1 {
+        let a = put(out, at, b"-");
+        return put_decimal(out, a, wrote % REFUSED);
+    }
     if wrote / SENT % 2 == 0 {
         return put(out, at, b"--");
     }

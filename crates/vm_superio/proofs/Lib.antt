@@ -1,7 +1,8 @@
--- In the order of the proof: marks and raises, what stays the same, the rows at each call, runs; then what is computed, and what is
--- restored.
+-- In the order of the proof: marks and raises, what fetching leaves, what stays the same, the rows at each call, runs; then what is
+-- computed, and what is restored.
 pub mod Marks
 pub mod Raising
+pub mod Draining
 pub mod Twins
 pub mod Keeping
 pub mod Counting

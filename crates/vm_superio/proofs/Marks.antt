@@ -1,12 +1,12 @@
 -- The original's marks: what marking received data leaves of the transmitter's, what an announcement does, and what a read of IIR shows.
-use mathlib.Core.Path.{_≡_, refl, ap, _∙_}
+use mathlib.Core.Path.{_≡_, refl, sym, ap, _∙_}
 use mathlib.Core.Bool.{Bool, true, false, cond, not, _&&_}
 use Prim.Native.Nat.{ℕ, _+_, _%_, _<_}
 use native.Mathlib.Omega.{arith}
 use lib.Bits.{bitAnd, bitOr, or-mod}
 use lib.Dec.{eqb}
 use Rattle.common.specs.Bits.{on}
-use Rattle.common.proofs.EveryByte.{low-and, everywhere}
+use Rattle.common.proofs.EveryByte.{low-and, everywhere, same}
 use Rattle.vm_superio.specs.Original.{Kind, receivedData, transmitterEmpty, isMarked, mark, unmark, isDue, Announced, announce}
 use Rattle.vm_superio.specs.Original.{iirRead, enabling}
 
@@ -38,6 +38,14 @@ pub data-unmarked-keeps : (x : ℕ) → isMarked (unmark x receivedData) transmi
 unfolding unmark
 data-unmarked-keeps = everywhere (λ x. isMarked (unmark x receivedData) transmitterEmpty) (λ x. isMarked x transmitterEmpty)
     (λ x. ap (λ (a : ℕ). isMarked a transmitterEmpty) (unmark-low x)) (on-low 0x02 (omega arith)) tt
+
+-- To unmark it once more changes nothing.
+pub data-unmarked-twice : (x : ℕ) → unmark (unmark x receivedData) receivedData ≡ unmark x receivedData
+unfolding unmark
+data-unmarked-twice x =
+    ap (λ (a : ℕ). unmark a receivedData) (unmark-low x)
+    ∙ same (λ x. unmark (unmark x receivedData) receivedData) (λ x. unmark x receivedData) tt (x % 256) (omega arith)
+    ∙ sym (unmark-low x)
 
 -- ---- An announcement
 

@@ -1,5 +1,6 @@
--- What answers have in common leaves out the reply to a read of IIR, the number of raises, and the three events that the original does not
--- tell (delivered, looped, dropped), and nothing else: where two are the same in common, all the rest of them is the same.
+-- What answers have in common leaves out the reply to a read of IIR, the number of raises, and the events that the original does not tell
+-- (delivered, looped, dropped, flushed and what was discarded), and nothing else: where two are the same in common, all the rest of them
+-- is the same.
 use mathlib.Core.Path.{_≡_, refl, sym, ap, _∙_}
 use mathlib.Core.Bool.{Bool, true, false, true≢false}
 use mathlib.Core.List.{List, [], _∷_, tail}

@@ -9,16 +9,20 @@ use lib.Dec.{eqb}
 use borrow.Author.Tests.{eqb-false, ltb-true}
 use Rattle.common.specs.Lists.{some}
 use Rattle.interrupts.specs.Interrupts as interrupts
+use Rattle.line_status.specs.LineStatus.{lsrAfterRead}
 use Rattle.serial.specs.Port.{Register, RBR-THR, IER, IIR-FCR, LCR, MCR, LSR, MSR, SCR, DLL, DLM, reserved, addressed}
 use Rattle.serial.specs.Port as serial
 use Rattle.runs.specs.Run.{Op, read, write, input, room}
 use Rattle.runs.specs.Run as runs
+use Rattle.runs.specs.Reached.{AllOfBytes}
+use Rattle.runs.proofs.Reachable.{all-reachable}
 use Rattle.vm_superio.specs.Original.{Original, fresh, isOpen, inLoop, isRoom, roomOf, receivedData, transmitterEmpty, isMarked}
 use Rattle.vm_superio.specs.Original.{isDue, mark, unmark}
 use Rattle.vm_superio.specs.Original.{Announced, announce, enabling, ierStored, iirRead, readRbr, readRegister, receives, writeLine}
 use Rattle.vm_superio.specs.Original.{writeIer, writeRegister}
 use Rattle.vm_superio.specs.Original.{Out, Did, inputOf, step, run}
-use Rattle.vm_superio.specs.Beside.{isStrange, enables, dataQuiet}
+use Rattle.vm_superio.specs.Beside.{isStrange, enables, dataQuiet, isToEmpty, runBeside, withFetching}
+use Rattle.vm_superio.proofs.Draining.{run-fetching}
 use Rattle.vm_superio.proofs.Runs.{same-from-fresh}
 
 -- IIR as it is stored, and whether a byte waits.
@@ -154,6 +158,10 @@ run-reached q s (o ∷ os) = run-reached (step q o .original) (step-reached q s 
 pub all-reached : (size : ℕ) (os : List Op) → Reached (run (fresh size) os .original)
 all-reached size os = run-reached (fresh size) none os
 
+-- Beside ours too: what waits there is fetched by reads.
+beside-reached : (size : ℕ) (os : List Op) → Reached (runBeside (fresh size) os .original)
+beside-reached size os = subst Reached (run-fetching (fresh size) os) (all-reached size (withFetching (fresh size) os))
+
 -- ---- What that says
 
 pub marked-waits : {iir : ℕ} {w : Bool} → Sound iir w → isMarked iir receivedData ≡ true → w ≡ true
@@ -170,8 +178,19 @@ ordinary received = refl
 ordinary both = refl
 
 -- No run from fresh meets the three rows that are shown from a restored state.
-pub never-strange : (size : ℕ) (os : List Op) → isStrange (run (fresh size) os .original .iir) ≡ false
-never-strange size os = ordinary (all-reached size os)
+pub never-strange : (size : ℕ) (os : List Op) → isStrange (runBeside (fresh size) os .original .iir) ≡ false
+never-strange size os = ordinary (beside-reached size os)
+
+-- Nor the one of FCR where no byte waits: something is to empty exactly where one does.
+only-bytes : (w : List ℕ) (lsr : ℕ) → lsr ≡ cond (some w) 0x61 0x60 → isToEmpty w lsr ≡ some w
+unfolding lsrAfterRead
+only-bytes [] lsr e = rw e
+only-bytes (x ∷ xs) lsr e = refl
+
+pub emptied-where-waits : (size : ℕ) (os : List Op) → AllOfBytes os
+    → let p = runs.run (serial.fresh size) os .port in isToEmpty (p .waiting) (p .lsr) ≡ some (p .waiting)
+emptied-where-waits size os h =
+    let p = runs.run (serial.fresh size) os .port in only-bytes (p .waiting) (p .lsr) (all-reachable size os h .lsr)
 
 no-quiet : (e w m : Bool) → (m ≡ true → w ≡ true) → (e && not w && m) ≡ false
 no-quiet true true m h = refl
@@ -179,7 +198,7 @@ no-quiet true false true h = absurd (false≢true (h refl))
 no-quiet true false false h = refl
 no-quiet false w m h = refl
 
-pub never-quiet : (size : ℕ) (os : List Op) → dataQuiet (runs.run (serial.fresh size) os .port) (run (fresh size) os .original) ≡ false
+pub never-quiet : (size : ℕ) (os : List Op) → dataQuiet (runs.run (serial.fresh size) os .port) (runBeside (fresh size) os .original) ≡ false
 never-quiet size os =
     no-quiet (enables (runs.run (serial.fresh size) os .port) interrupts.receivedData) _ _
-    (λ m. ap some (sym (same-from-fresh size os .same .waiting)) ∙ marked-waits (all-reached size os) m)
+    (λ m. ap some (sym (same-from-fresh size os .same .waiting)) ∙ marked-waits (beside-reached size os) m)

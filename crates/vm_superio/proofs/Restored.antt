@@ -26,6 +26,10 @@ use Rattle.vm_superio.proofs.Reached.{Reached, all-reached, marked-wait
 
 -- ---- To ours
 
+-- FCR, which the original does not keep, is that of a fresh port.
+pub fresh-ported : (size : ℕ) → ported (fresh size) ≡ serial.fresh size
+fresh-ported size = refl
+
 no-fewer : (a b : Bool) → (a ≡ true → b ≡ true) → once a ≤ once b
 no-fewer true b h = rw (h refl) (omega arith)
 no-fewer false b h = omega arith

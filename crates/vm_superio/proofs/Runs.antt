@@ -6,30 +6,30 @@ use Rattle.serial.specs.Port.{Port, fresh}
 use Rattle.runs.specs.Run.{Op, step, run}
 use Rattle.vm_superio.specs.Original.{Original}
 use Rattle.vm_superio.specs.Original as original
-use Rattle.vm_superio.specs.Beside.{restored, Beside, SameRun, ExactRun}
+use Rattle.vm_superio.specs.Beside.{restored, next, runBeside, Beside, SameRun, ExactRun}
 use Rattle.vm_superio.proofs.Twins.{fresh-beside, restored-beside}
 use Rattle.vm_superio.proofs.Keeping.{kept}
 use Rattle.vm_superio.proofs.Exact.{exact}
 
 -- Every run keeps the pair beside.
-pub beside-for-ever : (p : Port) (q : Original) → Beside p q → (os : List Op) → Beside (run p os .port) (original.run q os .original)
-unfolding run original.run
+pub beside-for-ever : (p : Port) (q : Original) → Beside p q → (os : List Op) → Beside (run p os .port) (runBeside q os .original)
+unfolding run runBeside
 beside-for-ever p q b [] = b
-beside-for-ever p q b (o ∷ os) = beside-for-ever (step p o .port) (original.step q o .original) (kept b o .beside) os
+beside-for-ever p q b (o ∷ os) = beside-for-ever (step p o .port) (next q o) (kept b o .beside) os
 
 -- Everything but IIR's reply and the number of raises is the same for ever.
 pub same-for-ever : (p : Port) (q : Original) → Beside p q → (os : List Op) → SameRun p q os
-unfolding run original.run
+unfolding run runBeside
 same-for-ever p q b [] = record { same = b .same; answers = refl }
 same-for-ever p q b (o ∷ os) =
     let k = kept b o in
-    let more = same-for-ever (step p o .port) (original.step q o .original) (k .beside) os in
+    let more = same-for-ever (step p o .port) (next q o) (k .beside) os in
     record { same = more .same; answers = rw (k .common, more .answers) refl }
 
 -- Each call of a run agrees or is in a row, and not both.
 pub exact-for-ever : (p : Port) (q : Original) → Beside p q → (os : List Op) → ExactRun p q os
 exact-for-ever p q b [] = tt
-exact-for-ever p q b (o ∷ os) = (exact b o, exact-for-ever (step p o .port) (original.step q o .original) (kept b o .beside) os)
+exact-for-ever p q b (o ∷ os) = (exact b o, exact-for-ever (step p o .port) (next q o) (kept b o .beside) os)
 
 -- ---- From where runs begin: both fresh, and both restored from one saved state
 

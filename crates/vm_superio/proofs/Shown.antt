@@ -6,13 +6,13 @@ use Prim.Native.Nat.{ℕ}
 use Rattle.serial.specs.Port.{Port, noEvents, fresh}
 use Rattle.runs.specs.Run.{Op, read, write, input, Answer, replied, sent, took}
 use Rattle.vm_superio.specs.Original as original
-use Rattle.vm_superio.specs.Beside.{restored, Shown, original-strange-iir, original-two-kinds, original-forgotten-data}
+use Rattle.vm_superio.specs.Beside.{restored, Shown, ShownWaiting, original-strange-iir, original-two-kinds, original-forgotten-data}
 use Rattle.vm_superio.specs.Beside.{original-stale-data}
 use Rattle.vm_superio.specs.Beside.{original-stale-transmitter, original-forgotten-transmitter, original-sends-again}
 use Rattle.vm_superio.specs.Beside.{original-loop-transmitter}
 use Rattle.vm_superio.specs.Beside.{original-loop-data-again, original-loop-data-quiet, original-data-again, original-data-quiet}
 use Rattle.vm_superio.specs.Beside.{original-quiet-data, original-enables-data-again, original-quiet-transmitter}
-use Rattle.vm_superio.specs.Beside.{original-enables-transmitter-again}
+use Rattle.vm_superio.specs.Beside.{original-enables-transmitter-again, original-keeps-fifo}
 use Rattle.vm_superio.proofs.Computing.{computing}
 
 abbrev FromFresh : List Op → Op → Answer → Answer → Type 0
@@ -21,7 +21,7 @@ FromFresh before call ours theirs = Shown (fresh 64) (original.fresh 64) before 
 -- A restored port: IER, MCR and IIR.
 abbrev holding : ℕ → ℕ → ℕ → Port
 holding ier mcr iir = record {
-  settings = record { ier = ier; lcr = 0x03; mcr = mcr; scr = 0; dll = 0x0c; dlm = 0 };
+  settings = record { ier = ier; lcr = 0x03; mcr = mcr; scr = 0; dll = 0x0c; dlm = 0; fcr = 0 };
   iir = iir;
   lsr = 0x60;
   msr = 0xb0;
@@ -106,3 +106,10 @@ shows-original-quiet-transmitter = record { row = original-quiet-transmitter ref
 pub shows-original-enables-transmitter-again : FromFresh (write 1 0x03 ∷ input byte ∷ read 2 ∷ []) (write 1 0x02) (sent [] noEvents 0) (sent [] noEvents 1)
 unfolding computing
 shows-original-enables-transmitter-again = record { row = original-enables-transmitter-again refl refl; our = refl; their = refl }
+
+-- ---- FCR is written
+
+-- One byte waits, and ours throws it away; the original keeps it.
+pub shows-original-keeps-fifo : ShownWaiting (fresh 64) (original.fresh 64) (input byte ∷ []) (write 2 0x02) [] byte
+unfolding computing
+shows-original-keeps-fifo = record { row = original-keeps-fifo refl refl; our = refl; their = refl }

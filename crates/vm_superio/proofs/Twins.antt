@@ -1,4 +1,4 @@
--- The original with all of our port but IIR: every pair that is the same is such a pair, so that each law is said of these.
+-- The original with all of our port but IIR and FCR: every pair that is the same is such a pair, so that each law is said of these.
 use mathlib.Core.Path.{_≡_, refl, subst}
 use mathlib.Core.Bool.{true, false≢true}
 use Prim.Native.Nat.{ℕ}
@@ -6,10 +6,10 @@ use Rattle.interrupts.specs.Interrupts.{transmitterEmpty}
 use Rattle.serial.specs.Port.{Port, fresh, active}
 use Rattle.vm_superio.specs.Original.{Original, isMarked}
 use Rattle.vm_superio.specs.Original as original
-use Rattle.vm_superio.specs.Beside.{Same, restored, enables, Beside}
+use Rattle.vm_superio.specs.Beside.{keptByBoth, Same, restored, enables, Beside}
 
 abbrev pub twin : Port → ℕ → Original
-twin p j = record { settings = p .settings; iir = j; lsr = p .lsr; msr = p .msr; waiting = p .waiting; size = p .size }
+twin p j = record { settings = keptByBoth (p .settings); iir = j; lsr = p .lsr; msr = p .msr; waiting = p .waiting; size = p .size }
 
 pub is-same : (p : Port) (j : ℕ) → Same p (twin p j)
 is-same p j = record { settings = refl; lsr = refl; msr = refl; waiting = refl; size = refl }

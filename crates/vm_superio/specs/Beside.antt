@@ -1,13 +1,17 @@
--- Ours and the original side by side: what they have in common for ever, and the rows where IIR's reply or the number of raises differs.
+-- Ours and the original side by side: what they have in common for ever, and the rows where IIR's reply, the number of raises or, after a
+-- write of FCR, what waits differs.
 use Prim.Native.Nat.{ℕ}
 use mathlib.Core.Path.{_≡_}
 use mathlib.Core.Logic.{_⊎_}
-use mathlib.Core.List.{List, [], _∷_}
+use mathlib.Core.List.{List, [], _∷_, _++_, tail}
 use mathlib.Core.Bool.{Bool, true, false, cond, not, _&&_, _||_}
 use lib.Dec.{eqb}
+use Rattle.common.specs.Bits.{on}
 use Rattle.common.specs.Lists.{some}
 use Rattle.interrupts.specs.Interrupts.{Kind, receivedData, transmitterEmpty, ierStored, isEnabled}
+use Rattle.line_status.specs.LineStatus.{lsrAfterRead}
 use Rattle.serial.specs.Port.{Port, Events, Register, RBR-THR, IER, IIR-FCR, addressed, isOpen, inLoop, hasRoom, active}
+use Rattle.serial.specs.Port as serial
 use Rattle.runs.specs.Run.{Op, read, write, input, room, Answer, replied, sent, took, full, step, run}
 use Rattle.runs.specs.Run as runs
 use Rattle.vm_superio.specs.Original.{Original, isMarked, iirRead}
@@ -15,9 +19,13 @@ use Rattle.vm_superio.specs.Original as original
 
 -- ---- What the two have in common
 
--- Everything but IIR as it is stored.
+-- What both keep of what the guest wrote. FCR ours alone remembers.
+abbrev pub keptByBoth : serial.Settings → original.Settings
+keptByBoth s = record { ier = s .ier; lcr = s .lcr; mcr = s .mcr; scr = s .scr; dll = s .dll; dlm = s .dlm }
+
+-- Everything but IIR as it is stored, and FCR.
 pub record Same (p : Port) (q : Original) : Type 0 where
-  pub settings : q .settings ≡ p .settings
+  pub settings : q .settings ≡ keptByBoth (p .settings)
   pub lsr : q .lsr ≡ p .lsr
   pub msr : q .msr ≡ p .msr
   pub waiting : q .waiting ≡ p .waiting
@@ -25,11 +33,19 @@ pub record Same (p : Port) (q : Original) : Type 0 where
 
 -- One and the same saved state, restored by both.
 abbrev pub restored : Port → Original
-restored p = record { settings = p .settings; iir = p .iir; lsr = p .lsr; msr = p .msr; waiting = p .waiting; size = p .size }
+restored p = record { settings = keptByBoth (p .settings); iir = p .iir; lsr = p .lsr; msr = p .msr; waiting = p .waiting; size = p .size }
 
 -- What happened, as far as the original tells it: that RBR was read, and left no byte.
 abbrev pub asOriginal : Events → Events
-asOriginal e = record { dataRead = e .dataRead; delivered = false; noneLeft = e .noneLeft; looped = false; dropped = false }
+asOriginal e = record {
+  dataRead = e .dataRead;
+  delivered = false;
+  noneLeft = e .noneLeft;
+  looped = false;
+  dropped = false;
+  flushed = false;
+  discarded = [];
+}
 
 -- Of an answer: the reply but at offset 2, these events, the bytes sent, taken, "full" and the room. 0 stands for what may differ: IIR's
 -- reply, raises.
@@ -50,6 +66,53 @@ abbrev pub commons : List Op → List Answer → List Answer
 commons [] answers = []
 commons (o ∷ os) [] = []
 commons (o ∷ os) (a ∷ answers) = common (isIirRead o) a ∷ commons os answers
+
+-- ---- Where FCR empties the receiver
+
+-- By a write with 0x02 at offset 2 ours throws away what waits; the original keeps it, and the two would differ for ever after. So that they
+-- can be compared over every run, the original's guest then reads what waits there. These reads are no operations of the run: their answers,
+-- and with them their callbacks, are counted on neither side. At any other write of FCR the original does nothing, and its guest neither.
+
+-- There is something to empty: a byte waits, or data ready is to be cleared in LSR, which without a byte is so in a restored state alone.
+abbrev pub isToEmpty : List ℕ → ℕ → Bool
+isToEmpty waiting lsr = some waiting || not (eqb (lsrAfterRead false lsr) lsr)
+
+abbrev pub isEmptied : Original → Op → Bool
+isEmptied q (read offset) = false
+isEmptied q (write offset value) = eqb offset 2 && (on value 0x02 && isToEmpty (q .waiting) (q .lsr))
+isEmptied q (input bytes) = false
+isEmptied q room = false
+
+-- RBR is read, DLAB closed for it, once for each byte that waits; once where none does.
+abbrev pub onceForEach : List ℕ → List Op
+onceForEach [] = []
+onceForEach (byte ∷ bytes) = read 0 ∷ onceForEach bytes
+
+abbrev pub fetching : Original → List Op
+fetching q = write 3 0x00 ∷ read 0 ∷ (onceForEach (tail (q .waiting)) ++ (write 3 (q .settings .lcr) ∷ []))
+
+unfoldable pub drained : Original → Original
+drained q = original.run q (fetching q) .original
+
+-- One operation of the original beside ours, and a run of them: the answers are those to the operations of the run.
+abbrev pub next : Original → Op → Original
+next q o = let after = original.step q o .original in cond (isEmptied q o) (drained after) after
+
+unfoldable pub runBeside : Original → List Op → original.Ran
+runBeside q [] = record { original = q; answers = [] }
+runBeside q (o ∷ os) =
+    let r = runBeside (next q o) os in
+    record { original = r .original; answers = original.step q o .answer ∷ r .answers }
+
+-- The operations of the run, with those reads among them: what the original's guest does in all.
+abbrev pub withFetching : Original → List Op → List Op
+withFetching q [] = []
+withFetching q (o ∷ os) = o ∷ (cond (isEmptied q o) (fetching (original.step q o .original)) [] ++ withFetching (next q o) os)
+
+-- No operation of the run is such a write.
+abbrev pub NoneEmptied : Original → List Op → Type 0
+NoneEmptied q [] = Unit {0}
+NoneEmptied q (o ∷ os) = (isEmptied q o ≡ false) × NoneEmptied (original.step q o .original) os
 
 -- ---- What the rows go by
 
@@ -147,6 +210,8 @@ pub data Row (p : Port) (q : Original) : Access → Type 0 where
   original-quiet-transmitter : {v : ℕ} → quietTransmitter p q v ≡ true → enablesDataAgain p q v ≡ false → Row p q (writes IER v)
   -- IER is written with the transmitter's interrupt enabled as before, active in ours and not marked in the original: that raises again.
   original-enables-transmitter-again : {v : ℕ} → enablesTransmitterAgain p q v ≡ true → quietData p q v ≡ false → Row p q (writes IER v)
+  -- FCR is written with 0x02 while bytes wait: ours throws them away, the original keeps them.
+  original-keeps-fifo : {v : ℕ} → on v 0x02 ≡ true → isToEmpty (p .waiting) (p .lsr) ≡ true → Row p q (writes IIR-FCR v)
 
 abbrev pub RowAt : Port → Original → Op → Type 0
 RowAt p q o = Row p q (accessOf p o)
@@ -160,8 +225,8 @@ pub record Beside (p : Port) (q : Original) : Type 0 where
 
 -- After a run they are the same, and what answers have in common was the same all the way.
 pub record SameRun (p : Port) (q : Original) (os : List Op) : Type 0 where
-  pub same : Same (run p os .port) (original.run q os .original)
-  pub answers : commons os (run p os .answers) ≡ commons os (original.run q os .answers)
+  pub same : Same (run p os .port) (runBeside q os .original)
+  pub answers : commons os (run p os .answers) ≡ commons os (runBeside q os .answers)
 
 -- ---- A call agrees, in a run or alone
 
@@ -173,8 +238,10 @@ heard (took t n) = took t n
 heard (full n) = full n
 heard (runs.hasRoom r) = runs.hasRoom r
 
-abbrev pub Agrees : Port → Original → Op → Type 0
-Agrees p q o = heard (step p o .answer) ≡ original.step q o .answer
+-- It answers the same and leaves the two the same.
+pub record Agrees (p : Port) (q : Original) (o : Op) : Type 0 where
+  pub answer : heard (step p o .answer) ≡ original.step q o .answer
+  pub same : Same (step p o .port) (original.step q o .original)
 
 -- The rows are exact at a call: it agrees or is in a row, and not both.
 pub record Exact (p : Port) (q : Original) (o : Op) : Type 0 where
@@ -184,10 +251,16 @@ pub record Exact (p : Port) (q : Original) (o : Op) : Type 0 where
 -- And at each call of a run: each goes on from its own state.
 abbrev pub ExactRun : Port → Original → List Op → Type 0
 ExactRun p q [] = Unit {0}
-ExactRun p q (o ∷ os) = Exact p q o × ExactRun (step p o .port) (original.step q o .original) os
+ExactRun p q (o ∷ os) = Exact p q o × ExactRun (step p o .port) (next q o) os
 
 -- After `before` the call is in a row, and each of the two answers so.
 pub record Shown (p : Port) (q : Original) (before : List Op) (call : Op) (ours theirs : Answer) : Type 0 where
-  pub row : RowAt (run p before .port) (original.run q before .original) call
+  pub row : RowAt (run p before .port) (runBeside q before .original) call
   pub our : heard (step (run p before .port) call .answer) ≡ ours
-  pub their : original.step (original.run q before .original) call .answer ≡ theirs
+  pub their : original.step (runBeside q before .original) call .answer ≡ theirs
+
+-- The same of the row of FCR, which shows in what waits.
+pub record ShownWaiting (p : Port) (q : Original) (before : List Op) (call : Op) (ours theirs : List ℕ) : Type 0 where
+  pub row : RowAt (run p before .port) (runBeside q before .original) call
+  pub our : step (run p before .port) call .port .waiting ≡ ours
+  pub their : original.step (runBeside q before .original) call .original .waiting ≡ theirs

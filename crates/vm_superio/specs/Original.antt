@@ -1,6 +1,6 @@
 -- The serial port of vm-superio 0.8.2, frozen: our port was once the same, and where ours changes this stays. They share the names of the
--- registers, what the guest wrote, the record of events, and the rooms of the line status and of the modem. The interrupts, and which events
--- it tells, are the original's own.
+-- registers, the record of events, and the rooms of the line status and of the modem. What it keeps of what the guest wrote, the interrupts
+-- and which events it tells are the original's own.
 use Prim.Native.Nat.{ℕ, _+_, _-_, min}
 use mathlib.Core.List.{List, [], _∷_, _++_, tail}
 use mathlib.Core.Bool.{Bool, true, false, cond, not, _&&_}
@@ -11,11 +11,19 @@ use Rattle.common.specs.Bits.{on}
 use Rattle.common.specs.Lists.{some, firstOr0}
 use Rattle.line_status.specs.LineStatus.{lsrReady, lsrAfterRead}
 use Rattle.modem.specs.Modem.{isLoop, msrRead}
-use Rattle.serial.specs.Port.{Register, RBR-THR, IER, IIR-FCR, LCR, MCR, LSR, MSR, SCR, DLL, DLM, reserved, addressed, Settings}
-use Rattle.serial.specs.Port.{Events, noEvents, putIer, putLcr, putMcr, putScr, putDll, putDlm}
+use Rattle.serial.specs.Port.{Register, RBR-THR, IER, IIR-FCR, LCR, MCR, LSR, MSR, SCR, DLL, DLM, reserved, addressed, Events, noEvents}
 use Rattle.runs.specs.Run.{Op, read, write, input, room, Answer, replied, sent, took, full, hasRoom}
 
 -- ---- State
+
+-- What the guest wrote last, in the registers that keep it. FCR is none of them.
+pub record Settings : Type 0 where
+  pub ier : ℕ
+  pub lcr : ℕ
+  pub mcr : ℕ
+  pub scr : ℕ
+  pub dll : ℕ
+  pub dlm : ℕ
 
 pub record Original : Type 0 where
   pub settings : Settings
@@ -108,10 +116,37 @@ becomes q = replies q 0
 abbrev pub stores : Original → Settings → Out
 stores q s = becomes (withSettings q s)
 
+-- The settings with one register written.
+abbrev pub putIer : Settings → ℕ → Settings
+putIer s v = record { ier = v; lcr = s .lcr; mcr = s .mcr; scr = s .scr; dll = s .dll; dlm = s .dlm }
+
+abbrev pub putLcr : Settings → ℕ → Settings
+putLcr s v = record { ier = s .ier; lcr = v; mcr = s .mcr; scr = s .scr; dll = s .dll; dlm = s .dlm }
+
+abbrev pub putMcr : Settings → ℕ → Settings
+putMcr s v = record { ier = s .ier; lcr = s .lcr; mcr = v; scr = s .scr; dll = s .dll; dlm = s .dlm }
+
+abbrev pub putScr : Settings → ℕ → Settings
+putScr s v = record { ier = s .ier; lcr = s .lcr; mcr = s .mcr; scr = v; dll = s .dll; dlm = s .dlm }
+
+abbrev pub putDll : Settings → ℕ → Settings
+putDll s v = record { ier = s .ier; lcr = s .lcr; mcr = s .mcr; scr = s .scr; dll = v; dlm = s .dlm }
+
+abbrev pub putDlm : Settings → ℕ → Settings
+putDlm s v = record { ier = s .ier; lcr = s .lcr; mcr = s .mcr; scr = s .scr; dll = s .dll; dlm = v }
+
 -- The callbacks of a read: RBR was read (`buffer_read`), and leaves no byte (`in_buffer_empty`). Those of a write, `out_byte` and
 -- `tx_lost_byte`, follow from the byte sent and what the sink made of it, and are not here. Of the loop nobody hears.
 abbrev pub calledBack : Bool → Events
-calledBack waits = record { dataRead = true; delivered = false; noneLeft = not waits; looped = false; dropped = false }
+calledBack waits = record {
+  dataRead = true;
+  delivered = false;
+  noneLeft = not waits;
+  looped = false;
+  dropped = false;
+  flushed = false;
+  discarded = [];
+}
 
 -- RBR: the first byte leaves, and received data is unmarked even if more wait.
 unfoldable pub readRbr : Original → Out
@@ -175,6 +210,7 @@ pub record Rule : Type 0 where
   pub read : Out
   pub write : ℕ → Out
 
+-- A write of FCR does nothing.
 abbrev pub rule : Original → Register → Rule
 rule q RBR-THR = record { read = readRbr q; write = writeThr q }
 rule q IER = record { read = replies q (q .settings .ier); write = writeIer q }

@@ -9,9 +9,18 @@ use Rattle.vm_superio.specs.Original.{Original, isTold}
 use Rattle.vm_superio.specs.Original as original
 use Rattle.vm_superio.specs.Beside.{restored, enables, marksData, marksTransmitter, Row, writes}
 
--- What the original saved, as our port. The other way it is `restored`.
+-- What the original saved, as our port; FCR, which it does not keep, is 0. The other way it is `restored`.
 abbrev pub ported : Original → Port
-ported q = record { settings = q .settings; iir = q .iir; lsr = q .lsr; msr = q .msr; waiting = q .waiting; size = q .size }
+ported q =
+    let s = q .settings in
+    record {
+      settings = record { ier = s .ier; lcr = s .lcr; mcr = s .mcr; scr = s .scr; dll = s .dll; dlm = s .dlm; fcr = 0 };
+      iir = q .iir;
+      lsr = q .lsr;
+      msr = q .msr;
+      waiting = q .waiting;
+      size = q .size;
+    }
 
 -- How often ours raises when it restores.
 abbrev pub raises : Port → ℕ

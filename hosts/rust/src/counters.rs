@@ -7,7 +7,8 @@ use crate::rtc_pl031::RtcEvents;
 use crate::serial::SerialEvents;
 
 /// Counts what a port and a clock tell, for a monitor that wants no type of its own. Each number stays at the greatest
-/// one where it would go beyond.
+/// one where it would go beyond. Bytes that a guest threw away are not counted: who wants to know of them takes a type of
+/// their own ([`SerialEvents::discarded`]).
 ///
 /// One may serve a port and a clock, several of either, and other threads that look at it: in an
 /// [`Arc`](std::sync::Arc).
@@ -51,8 +52,8 @@ impl Counters {
     /// All numbers are 0.
     pub fn new() -> Self {
         let (mut serial, mut clock) = ([0; 4], [0; 2]);
-        proved::serialpost4_serial_counters_init(&mut serial);
-        proved::serialpost4_clock_counters_init(&mut clock);
+        proved::serialpost5_serial_counters_init(&mut serial);
+        proved::serialpost5_clock_counters_init(&mut clock);
         Counters {
             serial: Mutex::new(serial),
             clock: Mutex::new(clock),
@@ -113,31 +114,34 @@ impl Default for Counters {
 
 impl SerialEvents for Counters {
     fn buffer_read(&self) {
-        proved::serialpost4_serial_count(&mut self.serial(), WORD_DATA_READ);
+        proved::serialpost5_serial_count(&mut self.serial(), WORD_DATA_READ);
     }
 
     fn out_byte(&self) {
-        proved::serialpost4_serial_count(&mut self.serial(), WORD_SENDS);
+        proved::serialpost5_serial_count(&mut self.serial(), WORD_SENDS);
     }
 
     fn tx_lost_byte(&self) {
         let mut numbers = self.serial();
-        proved::serialpost4_serial_count(&mut numbers, WORD_SENDS);
-        proved::serialpost4_serial_lost(&mut numbers);
+        proved::serialpost5_serial_count(&mut numbers, WORD_SENDS);
+        proved::serialpost5_serial_lost(&mut numbers);
     }
 
     fn in_buffer_empty(&self) {
-        proved::serialpost4_serial_count(&mut self.serial(), WORD_NONE_LEFT);
+        proved::serialpost5_serial_count(&mut self.serial(), WORD_NONE_LEFT);
     }
+
+    /// Not counted, for no number here is of it.
+    fn discarded(&self, _: usize) {}
 }
 
 impl RtcEvents for Counters {
     fn invalid_read(&self) {
-        proved::serialpost4_clock_count_read(&mut self.clock(), WORD_REFUSED);
+        proved::serialpost5_clock_count_read(&mut self.clock(), WORD_REFUSED);
     }
 
     fn invalid_write(&self) {
-        proved::serialpost4_clock_count_write(&mut self.clock(), WORD_REFUSED);
+        proved::serialpost5_clock_count_write(&mut self.clock(), WORD_REFUSED);
     }
 }
 

@@ -13,11 +13,14 @@ pub enum FormError {
     TrailingBytes,
     /// The form has a version that is not known.
     Version,
-    /// More than 64 bytes wait in a port.
+    /// More bytes wait in a port than its size.
     TooManyBytes,
-    /// A port has another size than 64 bytes. (Who calls the library directly meets this too where a spare byte of a port
-    /// or a spare word of a clock is not 0; a state of this crate has none of these.)
+    /// A spare byte of a port or a spare word of a clock is not 0. A state of this crate has none of these; who calls the
+    /// library directly meets this.
     Spare,
+    /// A port has a size that the state cannot tell: of [`SerialState`](crate::SerialState) any but 64, of
+    /// [`FullSerialState`](crate::FullSerialState) one with which no port is made. The library itself reads such a form.
+    Size,
 }
 
 impl fmt::Display for FormError {
@@ -26,8 +29,9 @@ impl fmt::Display for FormError {
             FormError::TooShort => "the form ends too early",
             FormError::TrailingBytes => "bytes follow the form",
             FormError::Version => "the form has a version that is not known",
-            FormError::TooManyBytes => "more than 64 bytes wait in a port",
-            FormError::Spare => "a spare byte or word is not 0, or a port has not the usual size",
+            FormError::TooManyBytes => "more bytes wait in a port than its size",
+            FormError::Spare => "a spare byte or word is not 0",
+            FormError::Size => "the port has a size that the state cannot tell",
         })
     }
 }

@@ -6,7 +6,7 @@ use std::io::{self, Write};
 use std::marker::PhantomData;
 use std::sync::Arc;
 
-use crate::proved::{self, Port, Regs};
+use crate::proved::{self, Port, Regs, FCR};
 use crate::{FormError, Trigger};
 
 /// What a port tells its monitor while the guest uses it: for metrics, for a log, or to offer input when there is room.
@@ -63,6 +63,17 @@ pub trait SerialEvents {
 
     /// The guest read RBR, and no byte waits now: a read of an empty port too.
     fn in_buffer_empty(&self);
+
+    /// The guest emptied the port by FCR: so many bytes, which waited, were thrown away, and no byte waits now. A monitor
+    /// can tell its operator that a phrase was typed before the guest listened. Where no byte waited it is not called.
+    ///
+    /// vm-superio does not have this, and a type that was written for it says nothing of it. Such a one may offer more
+    /// input when it is told [`in_buffer_empty`](Self::in_buffer_empty), and would wait for that in vain: so this tells it
+    /// that, unless it is said otherwise.
+    fn discarded(&self, bytes: usize) {
+        let _ = bytes;
+        self.in_buffer_empty();
+    }
 }
 
 /// No events: none is told.
@@ -92,6 +103,10 @@ impl<EV: SerialEvents> SerialEvents for Arc<EV> {
 
     fn in_buffer_empty(&self) {
         EV::in_buffer_empty(self);
+    }
+
+    fn discarded(&self, bytes: usize) {
+        EV::discarded(self, bytes);
     }
 }
 
@@ -181,8 +196,8 @@ impl SerialState {
             .reachable()
     }
 
-    /// The state as bytes, in the form that docs/STATE-FORMAT.md tells. One with more than 64 bytes has none:
-    /// [`FormError::TooManyBytes`].
+    /// The state as bytes, in the form that docs/STATE-FORMAT.md tells: as a port of 64 bytes of whose FCR nothing is
+    /// remembered. One with more bytes has none: [`FormError::TooManyBytes`].
     ///
     /// ```
     /// use serialpost::SerialState;
@@ -197,12 +212,14 @@ impl SerialState {
         proved::port_to_bytes(&self.registers(SerialSize::USUAL), &self.in_buffer)
     }
 
-    /// The state that was put into bytes; or why these are the form of none.
+    /// The state that was put into bytes; or why these are the form of none. What is remembered of FCR is left out, as
+    /// in [`Serial::state`]. A port of another size is refused, [`FormError::Size`]: [`FullSerialState::from_bytes`] reads
+    /// it.
     ///
     /// vm-superio does not have this.
     pub fn from_bytes(form: &[u8]) -> Result<Self, FormError> {
-        let (registers, waiting) = proved::port_from_bytes(form)?;
-        Ok(Self::new(registers, waiting))
+        let full = FullSerialState::from_bytes(form)?;
+        Self::try_from(full).map_err(|_| FormError::Size)
     }
 
     fn new([dll, ier, iir, lcr, mcr, lsr, msr, scr, dlm, ..]: Regs, waiting: Vec<u8>) -> Self {
@@ -220,7 +237,8 @@ impl SerialState {
         }
     }
 
-    /// The registers as they lie in the memory of a port of this size. Behind the nine they are a fresh port's.
+    /// The registers as they lie in the memory of a port of this size. Behind the nine they are a fresh port's: nothing is
+    /// remembered of FCR.
     fn registers(&self, size: SerialSize) -> Regs {
         let (mut regs, _) = Port::fresh(size).saved();
         regs[..9].copy_from_slice(&[
@@ -248,6 +266,30 @@ impl Default for SerialState {
 /// A port of any size written down: all that it has. Every one but those with more bytes than the size can be brought
 /// back by [`Serial::from_full_state`].
 ///
+/// ```
+/// use serialpost::serial::NoEvents;
+/// use serialpost::{FullSerialState, Serial, SerialSize, SizedSerial};
+/// # use serialpost::Trigger;
+/// # struct Line;
+/// # impl Trigger for Line {
+/// #     type E = ();
+/// #     fn trigger(&self) -> Result<(), ()> {
+/// #         Ok(())
+/// #     }
+/// # }
+///
+/// let size = SerialSize::new(128).unwrap();
+/// let mut here = Serial::with_size(size, Line, NoEvents, Vec::new());
+/// here.write(2, 0x81).unwrap(); // FCR
+/// let bytes = here.full_state().to_bytes().unwrap();
+///
+/// let full = FullSerialState::from_bytes(&bytes).unwrap();
+/// assert_eq!((full.size, full.fifo_control), (size, 0x81));
+/// let there: SizedSerial<_, _, _> =
+///     Serial::from_full_state(&full, Line, NoEvents, here.into_writer()).unwrap();
+/// assert_eq!(there.full_state(), full);
+/// ```
+///
 /// vm-superio does not have this. What a port has may become more, so it is made by [`new`](Self::new).
 #[derive(Clone, Debug, Eq, PartialEq)]
 #[non_exhaustive]
@@ -256,12 +298,19 @@ pub struct FullSerialState {
     pub state: SerialState,
     /// How many can wait.
     pub size: SerialSize,
+    /// FCR: what is remembered of the value that the guest wrote last, its bits 0x01, 0x08 and 0xc0. No answer of the
+    /// port depends on it.
+    pub fifo_control: u8,
 }
 
 impl FullSerialState {
-    /// The state of a port of this size.
+    /// The state of a port of this size, of whose FCR nothing is remembered: [`fifo_control`](Self::fifo_control) is 0.
     pub fn new(state: SerialState, size: SerialSize) -> Self {
-        FullSerialState { state, size }
+        FullSerialState {
+            state,
+            size,
+            fifo_control: 0,
+        }
     }
 
     /// Whether some run of a port of this size from a fresh one leaves this state: as [`SerialState::is_reachable`].
@@ -271,37 +320,48 @@ impl FullSerialState {
             .reachable()
     }
 
-    /// The state as bytes, in the form that docs/STATE-FORMAT.md tells. That form is for ports of the usual size. One of
-    /// another size has none, [`FormError::Spare`], and one with more than 64 bytes neither,
+    /// The state as bytes, in the form that docs/STATE-FORMAT.md tells. One with more bytes than its size has none:
     /// [`FormError::TooManyBytes`].
     pub fn to_bytes(&self) -> Result<Vec<u8>, FormError> {
         proved::port_to_bytes(&self.registers(), &self.state.in_buffer)
     }
 
-    /// The state that was put into bytes; or why these are the form of none.
+    /// The state that was put into bytes; or why these are the form of none. A form that was written before there were
+    /// sizes is one of a port of 64 bytes of whose FCR nothing is remembered.
+    ///
+    /// A form can tell sizes with which no port is made. No run comes to such a state, and it is refused:
+    /// [`FormError::Size`].
     pub fn from_bytes(form: &[u8]) -> Result<Self, FormError> {
         let (registers, waiting) = proved::port_from_bytes(form)?;
-        Ok(Self::of(registers, waiting))
+        Self::of(registers, waiting).ok_or(FormError::Size)
     }
 
-    fn of(registers: Regs, waiting: Vec<u8>) -> Self {
-        let size = SerialSize(proved::size(&registers));
-        Self::new(SerialState::new(registers, waiting), size)
+    /// What these registers tell, unless that is of no [`SerialSize`].
+    fn of(registers: Regs, waiting: Vec<u8>) -> Option<Self> {
+        let size = SerialSize::new(proved::size(&registers)).ok()?;
+        Some(FullSerialState {
+            state: SerialState::new(registers, waiting),
+            size,
+            fifo_control: registers[FCR],
+        })
     }
 
     fn registers(&self) -> Regs {
-        self.state.registers(self.size)
+        let mut registers = self.state.registers(self.size);
+        registers[FCR] = self.fifo_control;
+        registers
     }
 }
 
-/// A state of vm-superio is one of a port of the usual size.
+/// A state of vm-superio is one of a port of the usual size, of whose FCR nothing is remembered.
 impl From<SerialState> for FullSerialState {
     fn from(state: SerialState) -> Self {
         Self::new(state, SerialSize::USUAL)
     }
 }
 
-/// A state that vm-superio can be given. That of a port of another size is handed back.
+/// A state that vm-superio can be given, in which what is remembered of FCR is left out, as in [`Serial::state`]. That of a
+/// port of another size is handed back.
 impl TryFrom<FullSerialState> for SerialState {
     type Error = FullSerialState;
 
@@ -427,6 +487,10 @@ impl<T: Trigger, EV: SerialEvents, W: Write> Serial<T, EV, W> {
     }
 
     /// The port, written down. It stays as it is.
+    ///
+    /// What is remembered of FCR, which the guest writes at offset 2, is not in it: vm-superio's state has no field for
+    /// that. No answer of a port depends on it, so that one that is brought back from this state does all that this one
+    /// would, and nothing is lost that a guest or a host can see. [`full_state`](Self::full_state) keeps it.
     pub fn state(&self) -> SerialState {
         let (registers, waiting) = self.port.saved();
         SerialState::new(registers, waiting)
@@ -503,12 +567,12 @@ impl<T: Trigger, EV: SerialEvents, W: Write, S> Serial<T, EV, W, S> {
         Ok(serial)
     }
 
-    /// The port, written down with its size. It stays as it is.
+    /// The port, written down with its size and what is remembered of FCR. It stays as it is.
     ///
     /// vm-superio does not have this.
     pub fn full_state(&self) -> FullSerialState {
         let (registers, waiting) = self.port.saved();
-        FullSerialState::of(registers, waiting)
+        FullSerialState::of(registers, waiting).expect("a port has the size that it was made with")
     }
 
     /// Where the guest's bytes are sent.
@@ -541,8 +605,15 @@ impl<T: Trigger, EV: SerialEvents, W: Write, S> Serial<T, EV, W, S> {
     /// A byte that the guest sends is written and flushed first, and the events are told whether that went well. Then
     /// the interrupt is raised where it is due, even if the byte could not be sent. Where both fail, the interrupt's
     /// error is returned. A byte in loopback is not sent, and the events are not told of it.
+    ///
+    /// A write of FCR, at offset 2, with bit 0x02 empties the port: the events are told how many bytes that waited were
+    /// [`discarded`](SerialEvents::discarded), if there were any. vm-superio keeps them, and does nothing at that offset.
     pub fn write(&mut self, offset: u8, value: u8) -> Result<(), Error<T::E>> {
         let answer = self.port.write(offset, value);
+        let discarded = answer.discarded();
+        if discarded > 0 {
+            self.events.discarded(discarded);
+        }
         let sent = match answer.sent() {
             Some(byte) => self.send(byte),
             None => Ok(()),

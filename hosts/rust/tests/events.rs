@@ -4,16 +4,17 @@ use std::cell::{Cell, RefCell};
 use std::io::{self, sink, Write};
 use std::rc::Rc;
 use std::sync::atomic::{AtomicU64, Ordering};
-use std::sync::Arc;
+use std::sync::{Arc, Mutex};
 use std::thread;
 
 use serialpost::rtc_pl031::{self, RtcEvents};
 use serialpost::serial::{self, Error, SerialEvents};
-use serialpost::{Counters, Rtc, RtcState, Serial, SerialState, Trigger};
+use serialpost::{Counters, Rtc, RtcState, Serial, SerialSize, SerialState, Trigger};
 
 const DATA: u8 = 0;
 const IER: u8 = 1;
 const IIR: u8 = 2;
+const FCR: u8 = 2;
 const LCR: u8 = 3;
 const MCR: u8 = 4;
 
@@ -235,6 +236,68 @@ fn a_byte_in_loopback_and_a_write_of_another_register_are_not_told() {
     }
     port.write(DATA, 0x0c).unwrap(); // the divisor
     assert_eq!(log.take(), [""; 0]);
+}
+
+// ---- What the guest throws away
+
+/// A type that was written for vm-superio. It may offer more input when the port is empty.
+#[test]
+fn bytes_thrown_away_are_told_as_an_empty_buffer_where_nothing_else_is_said() {
+    let (log, mut port) = port();
+    port.enqueue_raw_bytes(&[7; 64]).unwrap();
+    port.write(FCR, 0x02).unwrap();
+    assert_eq!(log.take(), ["in_buffer_empty"]);
+    port.write(FCR, 0x02).unwrap();
+    assert_eq!(log.take(), [""; 0]);
+}
+
+/// A type that wants to know how many they are.
+#[derive(Default)]
+struct Thrown(Mutex<Vec<usize>>);
+
+impl SerialEvents for Thrown {
+    fn buffer_read(&self) {
+        unreachable!("nothing is read");
+    }
+
+    fn out_byte(&self) {
+        unreachable!("nothing is sent");
+    }
+
+    fn tx_lost_byte(&self) {
+        unreachable!("nothing is sent");
+    }
+
+    fn in_buffer_empty(&self) {
+        unreachable!("nothing is read");
+    }
+
+    fn discarded(&self, bytes: usize) {
+        self.0.lock().unwrap().push(bytes);
+    }
+}
+
+/// Throws away some bytes, as many as there is room for, and none.
+fn throw_away<EV: SerialEvents>(events: EV) {
+    let size = SerialSize::new(1024).unwrap();
+    let mut port = Serial::with_size(size, Quiet, events, sink());
+    for length in [5, 1024, 0] {
+        port.enqueue_raw_bytes(&vec![7; length]).unwrap();
+        for value in [0x00, 0xc1, 0xfd, 0x07, 0x07] {
+            port.write(FCR, value).unwrap();
+        }
+        assert_eq!(port.fifo_capacity(), 1024);
+    }
+}
+
+#[test]
+fn it_is_told_once_how_many_bytes_are_thrown_away() {
+    let thrown = Arc::new(Thrown::default());
+    throw_away(thrown.clone());
+    assert_eq!(*thrown.0.lock().unwrap(), [5, 1024]);
+    throw_away(Arc::new(thrown.clone()));
+    assert_eq!(*thrown.0.lock().unwrap(), [5, 1024, 5, 1024]);
+    throw_away(serial::NoEvents);
 }
 
 #[test]
@@ -465,11 +528,12 @@ fn counters_count_each_event_and_a_lost_byte_as_sent_too() {
 #[test]
 fn each_callback_counts_its_own_number() {
     type Callback = fn(&Counters);
-    let callbacks: [(Callback, [u64; 6]); 6] = [
+    let callbacks: [(Callback, [u64; 6]); 7] = [
         (SerialEvents::buffer_read, [1, 0, 0, 0, 0, 0]),
         (SerialEvents::out_byte, [0, 1, 0, 0, 0, 0]),
         (SerialEvents::tx_lost_byte, [0, 1, 1, 0, 0, 0]),
         (SerialEvents::in_buffer_empty, [0, 0, 0, 1, 0, 0]),
+        (|counters| counters.discarded(3), [0, 0, 0, 0, 0, 0]),
         (RtcEvents::invalid_read, [0, 0, 0, 0, 1, 0]),
         (RtcEvents::invalid_write, [0, 0, 0, 0, 0, 1]),
     ];
@@ -478,6 +542,13 @@ fn each_callback_counts_its_own_number() {
         callback(&counters);
         assert_eq!(counted(&counters), numbers);
     }
+}
+
+#[test]
+fn bytes_thrown_away_are_not_counted() {
+    let counters = Arc::new(Counters::new());
+    throw_away(counters.clone());
+    assert_eq!(counted(&counters), [0; 6]);
 }
 
 #[test]

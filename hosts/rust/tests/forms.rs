@@ -4,7 +4,7 @@ use std::error::Error as _;
 use std::fs;
 use std::path::Path;
 
-use serialpost::{FormError, RtcState, SerialState};
+use serialpost::{FormError, FullSerialState, RtcState, SerialState};
 
 /// A console at which someone types, and its form as docs/STATE-FORMAT.md shows it.
 fn typed() -> (SerialState, Vec<u8>) {
@@ -16,7 +16,8 @@ fn typed() -> (SerialState, Vec<u8>) {
         ..SerialState::default()
     };
     let registers = [0x0c, 0x01, 0x04, 0x03, 0x08, 0x61, 0xb0, 0x00, 0x00];
-    let form = [&[2, 0], &registers[..], &[3, 0], b"ls\n"].concat();
+    let (fcr, size) = (0x00, 0x00);
+    let form = [&[3, 0], &registers[..], &[fcr, size], &[3, 0], b"ls\n"].concat();
     (state, form)
 }
 
@@ -52,11 +53,11 @@ fn a_clock_is_written_and_read() {
 }
 
 #[test]
-fn a_port_with_64_bytes_has_the_longest_form() {
+fn a_65th_byte_has_no_form() {
     let mut state = typed().0;
     state.in_buffer = (0..64).collect();
     let form = state.to_bytes().unwrap();
-    assert_eq!(form.len(), 77);
+    assert_eq!(form.len(), 79);
     assert_eq!(SerialState::from_bytes(&form), Ok(state.clone()));
     state.in_buffer.push(64);
     assert_eq!(state.to_bytes(), Err(FormError::TooManyBytes));
@@ -100,10 +101,14 @@ fn errors_say_what_is_wrong() {
             FormError::Version,
             "the form has a version that is not known",
         ),
-        (FormError::TooManyBytes, "more than 64 bytes wait in a port"),
         (
-            FormError::Spare,
-            "a spare byte or word is not 0, or a port has not the usual size",
+            FormError::TooManyBytes,
+            "more bytes wait in a port than its size",
+        ),
+        (FormError::Spare, "a spare byte or word is not 0"),
+        (
+            FormError::Size,
+            "the port has a size that the state cannot tell",
         ),
     ];
     for (error, words) in errors {
@@ -136,14 +141,16 @@ fn reason(error: FormError) -> String {
         FormError::Version => "version",
         FormError::TooManyBytes => "too many",
         FormError::Spare => "spare",
+        FormError::Size => "size",
     };
     words.to_string()
 }
 
-/// The state in the words of docs/REPLAY.md, or the reason.
+/// The state in the words of docs/REPLAY.md, of a port FCR and the size behind it; or the reason.
 fn read(device: &str, form: &[u8]) -> String {
     match device {
-        "serial" => SerialState::from_bytes(form).map_or_else(reason, |s| {
+        "serial" => FullSerialState::from_bytes(form).map_or_else(reason, |full| {
+            let s = &full.state;
             let registers = [
                 s.baud_divisor_low,
                 s.baud_divisor_high,
@@ -157,8 +164,9 @@ fn read(device: &str, form: &[u8]) -> String {
             ]
             .map(|register| format!("{register:02x}"))
             .join(" ");
-            let waiting = &s.in_buffer;
-            format!("state {registers} {} {}", waiting.len(), hex(waiting))
+            let waiting = format!("{} {}", s.in_buffer.len(), hex(&s.in_buffer));
+            let (fcr, size) = (full.fifo_control, full.size.bytes());
+            format!("state {registers} {waiting} {fcr:02x} {size}")
         }),
         "clock" => RtcState::from_bytes(form).map_or_else(reason, |s| {
             format!(

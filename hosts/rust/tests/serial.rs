@@ -13,6 +13,7 @@ use serialpost::{Serial, Trigger};
 const DATA: u8 = 0;
 const IER: u8 = 1;
 const IIR: u8 = 2;
+const FCR: u8 = 2;
 const LCR: u8 = 3;
 const MCR: u8 = 4;
 const LSR: u8 = 5;
@@ -314,7 +315,7 @@ fn a_byte_that_comes_behind_another_is_not_raised_and_holds_the_line_high() {
     assert!(port.interrupt_line());
 }
 
-/// One of ten operations that interrupts depend on.
+/// One of eleven operations that interrupts depend on.
 fn operate(port: &mut Port, which: usize) {
     match which {
         0 => _ = port.read(IIR),
@@ -323,18 +324,19 @@ fn operate(port: &mut Port, which: usize) {
         3 => port.write(DATA, b'b').unwrap(),
         4 => port.write(MCR, 0x10).unwrap(),
         5 => port.write(MCR, 0x08).unwrap(),
-        ier => port.write(IER, ier as u8 - 6).unwrap(),
+        6 => port.write(FCR, 0x02).unwrap(),
+        ier => port.write(IER, ier as u8 - 7).unwrap(),
     }
 }
 
 #[test]
 fn the_line_rises_by_a_raise_and_is_high_after_one() {
     let [mut rose, mut raised_while_high] = [0, 0];
-    for run in 0..10_000 {
+    for run in 0..11_usize.pow(4) {
         let (host, mut port) = port();
-        for place in [1, 10, 100, 1000] {
+        for place in [1, 11, 121, 1331] {
             let before = port.interrupt_line();
-            operate(&mut port, run / place % 10);
+            operate(&mut port, run / place % 11);
             let (raises, after) = (host.raised(), port.interrupt_line());
             assert!(raises > 0 || before || !after, "run {run}: it rises");
             assert!(raises == 0 || after, "run {run}: a raise, and it is low");
@@ -343,6 +345,51 @@ fn the_line_rises_by_a_raise_and_is_high_after_one() {
         }
     }
     assert!(rose > 1000 && raised_while_high > 100);
+}
+
+// ---- FCR
+
+#[test]
+fn fcr_empties_the_buffer() {
+    for value in (0..=255).filter(|value| value & 0x02 != 0) {
+        let (host, mut port) = port();
+        port.write(IER, 0x01).unwrap();
+        port.enqueue_raw_bytes(b"hello").unwrap();
+        assert_eq!((host.raised(), port.interrupt_line()), (1, true));
+        port.write(FCR, value).unwrap();
+        assert_eq!((host.raised(), port.interrupt_line()), (0, false));
+        assert_eq!(port.fifo_capacity(), 64);
+        assert_eq!([port.read(LSR), port.read(IIR)], [0x60, 0xc1]);
+        port.enqueue_raw_bytes(b"ok").unwrap();
+        assert_eq!(host.raised(), 1);
+        assert_eq!([port.read(DATA), port.read(DATA)], *b"ok");
+    }
+}
+
+#[test]
+fn the_transmitters_interrupt_stays() {
+    let (host, mut port) = port_with_both_kinds();
+    host.events();
+    port.write(FCR, 0x07).unwrap();
+    assert_eq!((host.raised(), port.interrupt_line()), (0, true));
+    assert_eq!([port.read(IIR), port.read(IIR)], [0xc2, 0xc1]);
+}
+
+#[test]
+fn what_is_remembered_of_fcr_is_shown_nowhere() {
+    for value in (0..=255).filter(|value| value & 0x02 == 0) {
+        let [(_, mut port), (_, mut same)] = [port(), port()];
+        port.write(FCR, value).unwrap();
+        for port in [&mut port, &mut same] {
+            port.write(IER, 0x03).unwrap();
+            port.enqueue_raw_bytes(b"ab").unwrap();
+        }
+        assert_eq!(port.state(), same.state());
+        assert_eq!(port.full_state().fifo_control, value & 0xc9);
+        for offset in 0..=255 {
+            assert_eq!(port.read(offset), same.read(offset));
+        }
+    }
 }
 
 // ---- Loopback
@@ -446,7 +493,7 @@ fn three_registers_keep_what_is_written() {
 #[test]
 fn other_offsets_do_nothing() {
     let mut port = Serial::new(Quiet, Vec::new());
-    for offset in [IIR, LSR, MSR].into_iter().chain(8..=255) {
+    for offset in [LSR, MSR].into_iter().chain(8..=255) {
         port.write(offset, 0x05).unwrap();
     }
     assert_eq!([port.read(IIR), port.read(LSR)], [0xc1, 0x60]);

@@ -11,6 +11,7 @@ use serialpost::{FullSerialState, SerialSize, SizedSerial};
 
 const DATA: u8 = 0;
 const IER: u8 = 1;
+const FCR: u8 = 2;
 const MCR: u8 = 4;
 
 const SIZES: [usize; 7] = [16, 32, 64, 128, 256, 512, 1024];
@@ -216,20 +217,102 @@ fn vm_superio_is_given_no_state_of_another_size() {
 }
 
 #[test]
-fn a_port_of_another_size_has_no_form() {
+fn what_is_remembered_of_fcr_is_written_down_and_brought_back() {
     for size in sizes() {
-        let mut full = FullSerialState::new(SerialState::default(), size);
-        if size == SerialSize::USUAL {
-            let form = full.to_bytes().unwrap();
-            assert_eq!(form, full.state.to_bytes().unwrap());
-            assert_eq!(FullSerialState::from_bytes(&form), Ok(full));
-            continue;
+        for value in 0..=255 {
+            let mut here = port(size);
+            here.write(FCR, value).unwrap();
+            let full = here.full_state();
+            assert_eq!(full.fifo_control, value & 0xc9);
+            assert!(full.is_reachable());
+            assert_eq!(restored(&full).0.unwrap().full_state(), full);
         }
-        assert_eq!(full.to_bytes(), Err(FormError::Spare));
-        full.state.in_buffer = typed(65);
+    }
+    let mut full = port(SerialSize::USUAL).full_state();
+    full.fifo_control = 0x02;
+    assert!(!full.is_reachable());
+    assert_eq!(restored(&full).0.unwrap().full_state(), full);
+}
+
+/// vm-superio's state has no field for it.
+#[test]
+fn a_state_of_vm_superio_tells_nothing_of_fcr() {
+    let mut here = Serial::new(Line::default(), sink());
+    let fresh = here.state();
+    here.write(FCR, 0xc9).unwrap();
+    assert_eq!(here.full_state().fifo_control, 0xc9);
+    assert_eq!(here.state(), fresh);
+    assert_eq!(SerialState::try_from(here.full_state()), Ok(fresh.clone()));
+    let there = Serial::from_state(&here.state(), Line::default(), NoEvents, sink()).unwrap();
+    assert_eq!(there.full_state(), FullSerialState::from(fresh));
+}
+
+// ---- Forms
+
+/// Empty and full.
+#[test]
+fn a_port_of_every_size_has_a_form() {
+    for size in sizes() {
+        for length in [0, size.bytes()] {
+            let mut full = FullSerialState::new(SerialState::default(), size);
+            full.state.in_buffer = typed(length);
+            full.fifo_control = 0x81;
+            let form = full.to_bytes().unwrap();
+            assert_eq!((form.len(), form[0], form[11]), (15 + length, 3, 0x81));
+            assert_eq!(FullSerialState::from_bytes(&form), Ok(full.clone()));
+            assert_eq!(
+                SerialState::from_bytes(&form),
+                SerialState::try_from(full).map_err(|_| FormError::Size)
+            );
+        }
+        let mut full = FullSerialState::new(SerialState::default(), size);
+        full.state.in_buffer = typed(size.bytes() + 1);
         assert_eq!(full.to_bytes(), Err(FormError::TooManyBytes));
     }
-    let cut = FullSerialState::from_bytes(&[2]);
+}
+
+#[test]
+fn a_state_of_64_has_one_form() {
+    let state = SerialState {
+        in_buffer: typed(64),
+        ..SerialState::default()
+    };
+    let form = state.to_bytes().unwrap();
+    assert_eq!(FullSerialState::from(state.clone()).to_bytes(), Ok(form));
+}
+
+#[test]
+fn a_size_with_which_no_port_is_made_is_refused() {
+    let mut form = FullSerialState::from(SerialState::default())
+        .to_bytes()
+        .unwrap();
+    let mut read = vec![];
+    for register in 0..=255 {
+        form[12] = register;
+        match FullSerialState::from_bytes(&form) {
+            Ok(full) => read.push(full.size.bytes()),
+            Err(why) => assert_eq!(why, FormError::Size),
+        }
+    }
+    read.sort();
+    assert_eq!(read, SIZES);
+}
+
+/// As it was written before there were sizes.
+#[test]
+fn a_form_of_version_2_is_read_as_a_port_of_64() {
+    let state = SerialState {
+        in_buffer: b"ls".to_vec(),
+        ..SerialState::default()
+    };
+    let mut form = state.to_bytes().unwrap();
+    form[0] = 2;
+    form.drain(11..13);
+    let full = FullSerialState::from_bytes(&form).unwrap();
+    assert_eq!((full.size, full.fifo_control), (SerialSize::USUAL, 0));
+    assert_eq!(full.state, state);
+    assert_eq!(SerialState::from_bytes(&form), Ok(state));
+    let cut = FullSerialState::from_bytes(&form[..12]);
     assert_eq!(cut, Err(FormError::TooShort));
 }
 

@@ -4,7 +4,7 @@ use std::collections::HashMap;
 
 use super::*;
 use crate::account::Account;
-use crate::devices::{SerialState, IIR, LCR, MCR};
+use crate::devices::{flushes, SerialState, IER, IIR, LCR, MCR};
 use crate::driver::Driver;
 use crate::format::{asking_lines, is_start, parse, Operation::*};
 use crate::generate::announces;
@@ -23,11 +23,10 @@ struct Met(HashMap<String, usize>);
 
 impl Met {
     fn on(text: &[u8]) -> Self {
-        Met::by(Account::Original, text)
+        Met::by(Driver::fetching(Account::Original), text)
     }
 
-    fn by(account: Account, text: &[u8]) -> Self {
-        let mut driver = Driver::new(account);
+    fn by(mut driver: Driver<Account>, text: &[u8]) -> Self {
         let mut met = Met(HashMap::new());
         let mut into = "";
         let mut sent = false;
@@ -57,7 +56,7 @@ impl Met {
                 }
                 _ => {}
             }
-            sent = answer.starts_with("w ") && !answer.starts_with("w --");
+            sent = answer.starts_with("w ") && !answer.starts_with("w -");
             if answer.starts_with("counters ") {
                 met.note(&format!("counters after {counts}"));
                 counts = 0;
@@ -80,6 +79,7 @@ impl Met {
             Some(Input(_)) => "b",
             Some(ReadByte(8..)) => "read beyond",
             Some(WriteByte(8.., _)) => "write beyond",
+            Some(WriteByte(offset, value)) if flushes(offset, value) => "flush",
             Some(_) => &text[..text.len().min(4)],
         };
         self.note(&text);
@@ -94,10 +94,12 @@ impl Met {
             registers,
             buffer,
             size,
+            ..
         }) = driver.port()
         {
             let (open, looped) = (registers[LCR] & 0x80, registers[MCR] & 0x10);
             let waiting = buffer.len();
+            self.note(&format!("{access} with IER {:02x}", registers[IER] & 3));
             self.note(&format!("{access} at {waiting} {open:x} {looped:x}"));
             self.note(&format!("{access} at {waiting} of {size}"));
             self.note(&format!("IIR {:02x}", registers[IIR]));
@@ -126,13 +128,21 @@ fn the_same_seed_makes_the_same_list_of_the_length_asked_for() {
 
 #[test]
 fn every_limit_of_the_serial_port_is_visited() {
-    let met = Met::on(&sample(&[Device::Serial], true, 1));
+    let options = Options {
+        devices: vec![Device::Serial],
+        quiet_enable: true,
+        ..Options::default()
+    };
+    let met = Met::on(&list(&options, 100_000, 1));
     for (open, looped) in [("0", "0"), ("0", "10"), ("80", "0"), ("80", "10")] {
         for waiting in [0, 1, 63, 64] {
-            for access in ["r 00", "w 00", "b"] {
+            for access in ["r 00", "w 00", "b", "flush"] {
                 met.holds(10, format!("{access} at {waiting} {open} {looped}"));
             }
         }
+    }
+    for ier in ["00", "01"] {
+        met.holds(20, format!("flush with IER {ier}"));
     }
     for size in [0, 1, 63, 64, 65, 200] {
         met.holds(10, format!("input of {size}"));
@@ -150,11 +160,11 @@ fn every_limit_of_a_port_of_every_size_is_visited() {
         sizes: true,
         ..Options::default()
     };
-    let met = Met::by(Account::Ours, &list(&options, 200_000, 1));
+    let met = Met::by(Driver::new(Account::Ours), &list(&options, 200_000, 1));
     for size in SerialState::SIZES {
         met.holds(50, format!("serial {size}"));
         for waiting in [0, 1, size - 1, size] {
-            for access in ["r 00", "w 00", "b"] {
+            for access in ["r 00", "w 00", "b", "flush"] {
                 met.holds(10, format!("{access} at {waiting} of {size}"));
             }
         }
@@ -250,6 +260,21 @@ fn a_list_without_saved_states_has_none() {
         ..Options::default()
     };
     are_left_out(["save", "restore"], &options);
+}
+
+/// As in the lists that were recorded before FCR did something.
+#[test]
+fn a_list_without_flushes_has_few() {
+    let flushes = [false, true].map(|flushes| {
+        let options = Options {
+            devices: vec![Device::Serial],
+            flushes,
+            ..Options::default()
+        };
+        let met = Met::on(&list(&options, 50_000, 1)).0;
+        met.get("flush").copied().unwrap_or(0)
+    });
+    assert!(0 < flushes[0] && 5 * flushes[0] < flushes[1], "{flushes:?}");
 }
 
 #[test]
