@@ -74,13 +74,13 @@ abbrev pub valid : ℕ → Bool
 valid answer = not (eqb answer refusal)
 
 abbrev pub read_said : List ℕ → Bool → List ℕ
-read_said bytes isValid = text "r " ++ four_digits bytes ++ cond isValid (text " ok\n") (text " invalid\n")
+read_said bytes is_valid = text "r " ++ four_digits bytes ++ cond is_valid (text " ok\n") (text " invalid\n")
 
 abbrev pub read_says : Reply → List ℕ → List ℕ
 read_says reply bytes = read_said (bytes_after reply bytes) (valid (read_answer reply))
 
 abbrev pub write_said : Bool → List ℕ
-write_said isValid = cond isValid (text "w ok\n") (text "w invalid\n")
+write_said is_valid = cond is_valid (text "w ok\n") (text "w invalid\n")
 
 abbrev pub write_says : Change → List ℕ
 write_says change = write_said (valid (write_answer change))

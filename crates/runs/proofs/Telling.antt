@@ -18,11 +18,11 @@ use Rattle.runs.proofs.Registers.{is_rbr, is_fcr, rbr_is_data, fcr_is_at_2}
 
 module _ (p : Port) where
   abbrev of_read : Bool → Events
-  of_read atRbr = cond atRbr (read_events (some p.waiting) (some (tail p.waiting))) no_events
+  of_read at_rbr = cond at_rbr (read_events (some p.waiting) (some (tail p.waiting))) no_events
 
   abbrev of_write : ℕ → Bool → Bool → Events
-  of_write v atThr atFcr =
-      cond (atThr && in_loop p) (loop_events (has_room p)) (cond (atFcr && on v 0x02) (flush_events p.waiting) no_events)
+  of_write v at_thr at_fcr =
+      cond (at_thr && in_loop p) (loop_events (has_room p)) (cond (at_fcr && on v 0x02) (flush_events p.waiting) no_events)
 
   register_read : (r : Register) → (read_register p r).events ≡ of_read (is_rbr r)
   unfolding read_register is_rbr
