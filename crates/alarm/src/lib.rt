@@ -1,4 +1,6 @@
 // The clock's alarm: functions of numbers, which know no clock.
+#![tactic(auto)]
+
 ghost use Rattle.std.specs.Prelude.{◌≡◌, ◌≤◌};
 ghost use Rattle.alarm.specs.Alarm.{reaches, comes, raw_after, is_high, rises};
 

@@ -1,6 +1,8 @@
 // A PL031 real time clock that lies in eight words of the caller's memory: four registers, how many seconds the clock is ahead
 // of the host's time, a signed number of 64 bits in two halves, and two spare words. Any eight words are some clock, so no state
 // is refused. The host hands its time to each access; nothing here asks for it.
+#![tactic(auto)]
+
 ghost use Rattle.std.specs.Prelude.{◌≡◌, ◌-◌, ◌/◌, ◌%◌, ◌^◌, ◌≤◌, [], ◌∷◌, length, pos, ◌-ℤ◌, slice_index};
 ghost use Rattle.common.specs.Bytes.{value_of};
 ghost use Rattle.clock.specs.Registers.{shown, ids, says, becomes, with_lr, read_of, write_of};

@@ -1,4 +1,6 @@
 // A saved clock as bytes, and back: a version and six numbers, lowest byte first. The spare words have no place in it.
+#![tactic(auto)]
+
 ghost use Rattle.std.specs.Prelude.{◌≡◌, ◌+◌, ◌≤◌, length};
 ghost use Rattle.std.proofs.lemmas.List.Edits.{sets};
 ghost use Rattle.common.specs.Bytes.{bytes_of};

@@ -1,4 +1,6 @@
 // The lines of the clock.
+#![tactic(auto)]
+
 mod saved;
 
 ghost use Rattle.std.specs.Prelude.{◌+◌, ◌≤◌, ◌≡◌, false, ◌++◌, length, drop};

@@ -1,5 +1,7 @@
 // A clock is saved and restored: its eight words. Any eight words are some clock, so every one is restored; the answer says
 // whether a run from a fresh clock could have come to them.
+#![tactic(auto)]
+
 ghost use Rattle.std.specs.Prelude.{◌≡◌, true, ◌↔◌};
 ghost use Rattle.clock.specs.Layout.{joined, signed};
 ghost use Rattle.clock_saved.specs.Reachable.{ShowedAt, ReachableWords};

@@ -1,5 +1,7 @@
 // What happened at a device, counted for its operator. A host hands each answer to these functions; one that does not want to know calls
 // none of them. Counters lie in memory that the host lends, and any memory is some counters. A counter stops at the highest number.
+#![tactic(auto)]
+
 ghost use Rattle.std.specs.Prelude.{◌≡◌, length};
 ghost use Rattle.common.specs.Bits.{on};
 ghost use Rattle.counters.specs.Counters.{counted, answered, lost, fresh_serial, serial_of, SerialCounts};

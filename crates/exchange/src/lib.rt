@@ -1,5 +1,7 @@
 // A turn of the program with its caller: what is answered is written to standard output, and more is
 // read from standard input. Where either fails, standard error says why.
+#![tactic(auto)]
+
 ghost use Rattle.std.specs.Prelude.{◌+◌, ◌≤◌, ◌≡◌, true, length};
 ghost use Rattle.exchange.specs.Came.{count_of, ReadsAfter, Filled, Exchanged};
 ghost use Rattle.pieces.specs.Pieces.{Sound, Answered};

@@ -1,5 +1,7 @@
 // The corner of an i8042 that resets the machine. It keeps no state: a host hands each access of the
 // guest to these two functions and acts on the answer.
+#![tactic(auto)]
+
 ghost use Rattle.std.specs.Prelude.{◌≡◌};
 ghost use Rattle.i8042.specs.I8042.{read_of, write_resets};
 

@@ -1,5 +1,7 @@
 // IER, IIR and the interrupt line. Numbers go in and numbers come out: this crate knows no port and
 // no memory. `waits` says whether a byte waits.
+#![tactic(auto)]
+
 ghost use Rattle.std.specs.Prelude.{◌≡◌, Bool, true, false, ℕ, ◌≤◌};
 ghost use Rattle.interrupts.specs.Interrupts.{received_data, transmitter_empty, newly};
 ghost use Rattle.interrupts.specs.Interrupts.{ier_stored, is_active, is_high, code, settled};

@@ -1,4 +1,6 @@
 // LSR: functions of numbers, which know no port.
+#![tactic(auto)]
+
 ghost use Rattle.std.specs.Prelude.{◌≡◌};
 ghost use Rattle.line_status.specs.LineStatus.{lsr_ready, lsr_after_read};
 

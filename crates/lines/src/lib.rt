@@ -4,6 +4,8 @@
 // the state is `full`, it calls `pieces::settle` and reads into `held` behind its first `end` bytes,
 // and says so by `pieces::came`, or, at the end of the input, by `pieces::close`. Then it calls
 // `answer`. Nothing here reads or writes a file.
+#![tactic(auto)]
+
 mod devices;
 
 ghost use Rattle.std.specs.Prelude.{◌-◌, ◌<◌, ◌≡◌, true};

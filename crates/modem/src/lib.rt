@@ -1,4 +1,6 @@
 // MCR, MSR and the loop: functions of numbers, which know no port.
+#![tactic(auto)]
+
 ghost use Rattle.std.specs.Prelude.{◌≡◌};
 ghost use Rattle.modem.specs.Modem.{is_loop, msr_read};
 

@@ -1,4 +1,6 @@
 // Lines that arrive in pieces, in a block of the caller's, and where their reading stands.
+#![tactic(auto)]
+
 pub mod cut;
 
 ghost use Rattle.std.specs.Prelude.{◌+◌, ◌-◌, ◌≤◌, ◌<◌, ◌≡◌, length, take};

@@ -1,5 +1,7 @@
 // A whole run of the serial port in one call: its operations come as bytes, its answers go out as
 // words.
+#![tactic(auto)]
+
 ghost use Rattle.std.specs.Prelude.{◌≡◌};
 ghost use Rattle.play.specs.Play.{input_bytes, op_of, decode, is_run, Answered, Plays};
 

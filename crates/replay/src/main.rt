@@ -2,6 +2,8 @@
 //
 // There is no exit status to tell a failure by: a run that failed says so in one line on standard
 // error, and a run that did not writes nothing there.
+#![tactic(auto)]
+
 ghost use Rattle.lines.specs.Runs.{Left};
 
 use exchange::{ENDLESS, exchange};

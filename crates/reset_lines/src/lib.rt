@@ -1,4 +1,6 @@
 // The lines of the reset controller.
+#![tactic(auto)]
+
 ghost use Rattle.std.specs.Prelude.{◌+◌, ◌≤◌};
 ghost use Rattle.words.specs.Put.{Puts};
 ghost use Rattle.reset_lines.specs.Reset.{reset_answer, write_answer, read_answer};

@@ -1,4 +1,6 @@
 // A ring of 1,024 places: bytes lie one behind another from `start` on and go round at its end.
+#![tactic(auto)]
+
 ghost use Rattle.std.specs.Prelude.{◌≡◌, ◌+◌, ◌%◌, ◌<◌, ◌≤◌, [], ◌∷◌, length, take, slice_index};
 ghost use Rattle.ring.specs.Ring.{places_here, Put, Unrolled};
 

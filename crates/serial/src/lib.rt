@@ -1,5 +1,7 @@
 // A 16550 serial port in memory that its host lends, in place: nothing is copied, and any bytes are
 // some port. The host hands each access of the guest to these functions and acts on the answer.
+#![tactic(auto)]
+
 mod fcr;
 mod ier;
 mod iir;

@@ -1,4 +1,6 @@
 // The accesses of the serial port and the input to it, each with its answer.
+#![tactic(auto)]
+
 ghost use Rattle.std.specs.Prelude.{ℕ, ◌+◌, ◌≤◌, List, ◌++◌, ◌≡◌};
 ghost use Rattle.serial.specs.Layout.{port_of};
 ghost use Rattle.serial.specs.Port.{read_of, write_of, room_of, line};

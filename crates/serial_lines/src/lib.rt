@@ -1,4 +1,6 @@
 // The lines of the serial port.
+#![tactic(auto)]
+
 mod access;
 mod counted;
 mod saved;

@@ -1,4 +1,6 @@
 // A serial port is saved and restored.
+#![tactic(auto)]
+
 mod reachable;
 
 ghost use Rattle.std.specs.Prelude.{◌≡◌, List, ℕ, length};

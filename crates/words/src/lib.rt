@@ -1,5 +1,7 @@
 // The words of a list of operations and of its answers: what a line says, and how an answer is
 // spelled. No device is known here, and nothing is read or written.
+#![tactic(auto)]
+
 pub mod decimal;
 pub mod hex;
 pub mod pattern;

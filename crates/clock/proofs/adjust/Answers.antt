@@ -1,0 +1,7 @@
+-- `adjust` meets its contract. Three stores are the load register and how far the clock is ahead.
+use Rattle.clock.proofs.Stores.{stores_lr}
+use Rattle.std.proofs.Common.{rules}
+use Rattle.clock.proofs.adjust.Goals as goal
+
+pub returns : goal.returns
+returns c = let a = c.args in stores_lr a.clock.now c.eight_words.ensures.eight a.load a.ahead

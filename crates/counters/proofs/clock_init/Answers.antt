@@ -1,0 +1,7 @@
+-- The stores are a law of `Stores`.
+use Rattle.counters.proofs.Stores.{clock_cleared}
+use borrow.Author.Rules.{rules}
+use Rattle.counters.proofs.clock_init.Goals as goal
+
+pub returns : goal.returns
+returns c = clock_cleared c.args.counters.now c.two.ensures
