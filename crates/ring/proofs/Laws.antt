@@ -1,5 +1,5 @@
 -- Laws of the ring, for any number of places.
-use Rattle.std.proofs.Common.{◌≡◌, ℕ, zero, suc, ◌+◌, ◌-◌, ◌%◌, ◌<◌, ◌≤◌, List, [], ◌∷◌, ◌++◌, length, get_or, take, set, sym, refl, ap, ◌∙◌, ap₂, append_assoc, append-nil, add-zero, add_assoc, mod-lt, mod-eq_of_lt, add-one, sub-one, arith, length-set, get_or-set_other, take-suc, get_or-set_same}
+use Rattle.std.proofs.Common.{◌≡◌, ℕ, zero, suc, ◌+◌, ◌-◌, ◌%◌, ◌<◌, ◌≤◌, List, [], ◌∷◌, ◌++◌, length, get_or, take, set, sym, refl, ap, subst, ◌∙◌, ap₂, append_assoc, append-nil, add-zero, add_assoc, mod-lt, mod-eq_of_lt, add-one, sub-one, arith, length-set, get_or-set_other, take-suc, get_or-set_same}
 use mathlib.Core.List.{tail}
 use native.Mathlib.Nat.{mod-mod, mod-add-mod, add-mod_right, mod-eq-sub-mod}
 use native.Mathlib.Decide.{dec_lt}
@@ -59,7 +59,7 @@ queue_elsewhere c s b i k zero h l = refl
 queue_elsewhere c s b i k (suc n) h l =
     let e : i + k ≡ i + 1 + (k - 1) = omega arith in
     ap₂ ◌∷◌ (get_or-set_other s ((i + k) % c) (i % c) b 0 (apart c i k (omega arith) l))
-    (rw e (queue_elsewhere c s b (i + 1) (k - 1) n (omega arith) (omega arith)))
+    (subst (λ (x : ℕ). queue c (set s (x % c) b) (i + 1) n ≡ queue c s (i + 1) n) (sym e) (queue_elsewhere c s b (i + 1) (k - 1) n (omega arith) (omega arith)))
 
 -- ---- Bytes are put behind those that wait
 

@@ -7,4 +7,4 @@ use borrow.Author.Rules.{rules}
 use Rattle.interrupts.proofs.byte_sent.Goals as goal
 
 pub returns : goal.returns
-returns c = let a = c.args in sent_told a.ier a.iir a.waits (ap not (ne_eqb _ _ c.if-ier-eq0.false)) c.settled.ensures c.is_empty.ensures c.newly.ensures.0 c.newly.ensures.1
+returns c = let a = c.args in sent_told a.ier a.iir a.waits (ap not (ne_eqb _ _ c.if-ier-eq0.false)) c.settled.ensures c.is_empty.ensures c.newly.ensures.value c.newly.ensures.upper_bound
