@@ -1,0 +1,10 @@
+-- The answer is a law of `Reading`.
+use mathlib.Core.Path.{◌∙◌}
+use Rattle.serial.proofs.Reading.{identifies}
+use borrow.Author.Rules.{rules}
+use Rattle.serial.proofs.iir.read.Goals as goal
+
+pub returns : goal.returns
+returns c =
+    let a = c.args in
+    λ ring. identifies a.regs.now a.pos.now ring c.regs_len.ensures c.after_identification.ensures (c.wide.ensures ∙ c.identification.ensures)

@@ -1,0 +1,7 @@
+-- The answer is a law of `Registers`.
+use Rattle.serial.proofs.Registers.{makes_fresh}
+use borrow.Author.Rules.{rules}
+use Rattle.serial.proofs.make.Goals as goal
+
+pub returns : goal.returns
+returns c = let a = c.args in makes_fresh a.regs.now a.pos.now c.regs_len.ensures c.pos_len.ensures a.told

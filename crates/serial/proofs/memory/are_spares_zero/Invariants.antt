@@ -1,0 +1,11 @@
+-- The loop's invariant and its laws are of `Spares`.
+use Prim.Native.Nat.{◌-◌}
+use borrow.Author.Rules.{rules}
+use Rattle.serial.proofs.Spares.{ZeroUpTo, none_yet, one_more, all_zero, one_other}
+use Rattle.serial.proofs.memory.are_spares_zero.Given as goal
+
+abbrev pub invariant-loop-i : goal.invariant-loop-i
+invariant-loop-i l = ZeroUpTo l.regs l.i
+
+abbrev pub decreases-loop-i : goal.decreases-loop-i
+decreases-loop-i l = 16 - l.i

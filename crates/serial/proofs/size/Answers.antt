@@ -1,0 +1,7 @@
+-- The answer is a law of `Receiving`.
+use Rattle.serial.proofs.Receiving.{size_is}
+use borrow.Author.Rules.{rules}
+use Rattle.serial.proofs.size.Goals as goal
+
+pub returns : goal.returns
+returns c = size_is _ _ c.size.ensures
