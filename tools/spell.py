@@ -24,6 +24,7 @@ BOUND = re.compile(r"[({]((?:%s[ \t]+)+):[ \t]" % WORD)
 LAMBDA = re.compile(r"λ[ \t]*((?:%s[ \t]*)+)\." % WORD)
 USED = re.compile(r"^(?:ghost )?use ([^\s{;]+)\.\{([^}]*)\}", re.M)
 # What the toolchain calls the parts of a proof by hand.
+ALIAS = re.compile(r"^use [^\s{]+ as (\S+)", re.M)
 MADE = re.compile(r"^(\S+) : tie\.|^(\S+)[-_]spec : ", re.M)
 # A lemma that has the name of a field elsewhere gets the ending in its own crate alone.
 WITHIN = [("serial_form", "too_many")]
@@ -62,7 +63,7 @@ class Names:
         self.antt = sorted(f for part in ("specs", "proofs") for f in glob.glob(f"{top}/crates/*/{part}/**/*.antt", recursive=True))
         self.rt = sorted(glob.glob(f"{top}/crates/*/src/**/*.rt", recursive=True))
         self.definitions, self.lemmas, self.fields = set(), set(), set()
-        self.library = collections.defaultdict(set)
+        self.library, self.aliases = collections.defaultdict(set), {}
         for file in self.antt:
             text = code(open(file, encoding="utf-8").read())
             made = {it for found in MADE.findall(text) for it in found if it}
@@ -73,6 +74,7 @@ class Names:
                 names |= set(re.sub(r":.*", "", body).split())
             names |= {n for found in BOUND.findall(text) + LAMBDA.findall(text) for n in found.split()}
             (self.definitions if "/specs/" in file else self.lemmas).update(names)
+            self.aliases[file] = set(ALIAS.findall(text))
             for module, items in USED.findall(text):
                 parts = module.split(".")
                 if not (parts[0] == "Rattle" and parts[1] in self.crates):
@@ -102,7 +104,7 @@ class Names:
 
     def respell(self, path, file):
         parts = path.split(".")
-        variable = parts[0][0].islower()
+        variable = parts[0][0].islower() and parts[0] not in self.aliases.get(file, ())
         for n, part in enumerate(parts):
             for crate, name in WITHIN:
                 if part == name and f"/crates/{crate}/" in file:

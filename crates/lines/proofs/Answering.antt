@@ -57,10 +57,10 @@ module _ (line : List ℕ) (long : longest < length line) where
   some e = omega arith
 
   is_comment : get_or line 0 0 ≡ 0x23 → Silent ≡ kind_of line false
-  is_comment e = cutting.is-comment line refl some e
+  is_comment e = cutting.is_comment line refl some e
 
   is_long : (get_or line 0 0 ≡ 0x23 → ⊥) → TooLong ≡ kind_of line false
-  is_long n = cutting.is-too-long line refl some n long
+  is_long n = cutting.is_too_long line refl some n long
 
   by_first : (P : Kind → List ℕ → Type 0) → P Silent [] → P TooLong (text "?\n") → P (kind_of line false) (long_says line)
   by_first P p q = cases (eqb (get_or line 0 0) 0x23) refl where
@@ -131,7 +131,7 @@ module _ (held : List ℕ) (from seen end : ℕ) (started : from ≤ seen) (furt
         → Cutting true line (record { kind = kind_of (bytes_from from stop held) true; stop = stop; from = stop + 1; seen = stop + 1; passes = false })
     ends_long line l h said w' d =
         let more = bytes_from seen stop held in
-        let k = passed_over (rw (← cutting.is-rest (bytes_from from stop held) {passes = true} refl) at d) in
+        let k = passed_over (rw (← cutting.is_rest (bytes_from from stop held) {passes = true} refl) at d) in
         let a : AnswersLine (line ++ more) w (long_says line) w =
         rw (long_first line more l) at (long_answered (line ++ more) (longer line more l) w) in
         record {
@@ -188,7 +188,7 @@ module _ (held : List ℕ) (from seen end : ℕ) (started : from ≤ seen) (furt
         → Cutting true line (record { kind = kind_of (bytes_from from end held) true; stop = stop; from = end; seen = end; passes = true })
     over_long line l h said w' d =
         let more = bytes_from seen end held in
-        let k = passed_over (rw (← cutting.is-rest (bytes_from from end held) {passes = true} refl) at d) in
+        let k = passed_over (rw (← cutting.is_rest (bytes_from from end held) {passes = true} refl) at d) in
         record {
           line' = line ++ more;
           whole = λ f. absurd (true≢false f);
@@ -228,13 +228,13 @@ module _ (held : List ℕ) (from seen end : ℕ) (started : from ≤ seen) (furt
         (on refl w passes line l m h)
     by_length h false f =
         let n = leb-false (end - from) longest f in
-        let c = cutting.runs-over held from seen end passes refl h n refl ∙ sym q in
+        let c = cutting.runs_over held from seen end passes refl h n refl ∙ sym q in
         let g : stop ≡ r.stop = ap (λ (c : Cut). c.stop) c in
         subst (λ (c : Cut). Cutting refl w passes line c) c (over refl w passes line l m h (omega arith) n)
 
     by_stop : (b : Bool) → ltb stop end ≡ b → Cutting refl w passes line r
     by_stop true f =
         let h = ltb-true stop end f in
-        subst (λ (c : Cut). Cutting refl w passes line c) (cutting.ends-here held from seen end passes refl h refl ∙ sym q)
+        subst (λ (c : Cut). Cutting refl w passes line c) (cutting.ends_here held from seen end passes refl h refl ∙ sym q)
         (ends refl w passes line l m h)
     by_stop false f = by_length (ltb-false stop end f) (leb (end - from) longest) refl

@@ -115,18 +115,18 @@ module _ {line said said' : List ℕ} {c c' c₁ c₁' : clock-memory.Clocks} (k
       rw (← a.after, ← b.after)
       (record {
         says = said_once a.puts x.said ∙ sym (said_once b.puts y.said);
-        kept = clocks.named-kept a.answer.clocks b.answer.clocks k x.kept x.keeps y.kept y.keeps;
-        same = clocks.fresh-once a.words b.words x.fresh y.fresh x.time y.time x.counted y.counted;
+        kept = clocks.named_kept a.answer.clocks b.answer.clocks k x.kept x.keeps y.kept y.keeps;
+        same = clocks.fresh_once a.words b.words x.fresh y.fresh x.time y.time x.counted y.counted;
       })
   clock_once false s a b =
       let x = a.answers refl in
       let y : clock-lines.Answers (clock-lines.asks c line) c' b.out b.at b.answer b.out' =
-      subst (λ (q : clock-lines.Asks). clock-lines.Answers q c' b.out b.at b.answer b.out') (sym (clocks.asks-once line k)) (b.answers refl) in
+      subst (λ (q : clock-lines.Asks). clock-lines.Answers q c' b.out b.at b.answer b.out') (sym (clocks.asks_once line k)) (b.answers refl) in
       rw (← a.after, ← b.after)
       (record {
-        says = said_once a.puts x.said ∙ clocks.answers-said (s refl) x y ∙ sym (said_once b.puts y.said);
-        kept = clocks.answers-kept (s refl) x y k;
-        same = clocks.answers-clock (s refl) x y a.words b.words;
+        says = said_once a.puts x.said ∙ clocks.answers_said (s refl) x y ∙ sym (said_once b.puts y.said);
+        kept = clocks.answers_kept (s refl) x y k;
+        same = clocks.answers_clock (s refl) x y a.words b.words;
       })
 
 module _ {line said said' : List ℕ} {p p' p₁ p₁' : serial-memory.Ports} (k : ports.SameKept p.held p'.held) where
@@ -138,19 +138,19 @@ module _ {line said said' : List ℕ} {p p' p₁ p₁' : serial-memory.Ports} (k
       rw (← a.after, ← b.after)
       (record {
         says = said_once a.puts x.said ∙ sym (said_once b.puts y.said);
-        kept = ports.named-kept a.answer.ports.held b.answer.ports.held k x.kept y.kept;
-        same = ports.fresh-once x.fresh y.fresh x.counted y.counted;
+        kept = ports.named_kept a.answer.ports.held b.answer.ports.held k x.kept y.kept;
+        same = ports.fresh_once x.fresh y.fresh x.counted y.counted;
       })
   port_once false s a b =
       let x = a.answers refl in
       let y : serial-lines.AnswersAsked (serial-lines.asked_of p.held line) p' b.out b.at b.answer.ports b.out' b.answer.put =
       subst (λ (q : serial-lines.Asked). serial-lines.AnswersAsked q p' b.out b.at b.answer.ports b.out' b.answer.put)
-      (sym (ports.asked-once line k)) (b.answers refl) in
+      (sym (ports.asked_once line k)) (b.answers refl) in
       rw (← a.after, ← b.after)
       (record {
-        says = said_once a.puts x.said ∙ ports.answers-said (s refl) k x y ∙ sym (said_once b.puts y.said);
-        kept = ports.answers-kept (s refl) k x y;
-        same = ports.answers-port (s refl) k x y;
+        says = said_once a.puts x.said ∙ ports.answers_said (s refl) k x y ∙ sym (said_once b.puts y.said);
+        kept = ports.answers_kept (s refl) k x y;
+        same = ports.answers_port (s refl) k x y;
       })
 
 -- What was said, and the devices after it.

@@ -5,70 +5,70 @@ use Rattle.pc16550d.proofs.Computing.{computing}
 use Rattle.manual_lists.specs.Serial.{AsTold}
 use Rattle.manual_lists.specs.SerialLists as lists
 
-pub serial_beyond : (c : Chip) → AsTold c lists.serial-beyond
+pub serial_beyond : (c : Chip) → AsTold c lists.serial_beyond
 unfolding computing
 serial_beyond c = refl
 
-pub serial_empty_receiver : (c : Chip) → AsTold c lists.serial-empty-receiver
+pub serial_empty_receiver : (c : Chip) → AsTold c lists.serial_empty_receiver
 unfolding computing
 serial_empty_receiver c = refl
 
-pub serial_fifo_empty : (c : Chip) → AsTold c lists.serial-fifo-empty
+pub serial_fifo_empty : (c : Chip) → AsTold c lists.serial_fifo_empty
 unfolding computing
 serial_fifo_empty c = refl
 
-pub serial_fifo_off : (c : Chip) → AsTold c lists.serial-fifo-off
+pub serial_fifo_off : (c : Chip) → AsTold c lists.serial_fifo_off
 unfolding computing
 serial_fifo_off c = refl
 
-pub serial_line_overrun : (c : Chip) → AsTold c lists.serial-line-overrun
+pub serial_line_overrun : (c : Chip) → AsTold c lists.serial_line_overrun
 unfolding computing
 serial_line_overrun c = refl
 
-pub serial_loop_overrun : (c : Chip) → AsTold c lists.serial-loop-overrun
+pub serial_loop_overrun : (c : Chip) → AsTold c lists.serial_loop_overrun
 unfolding computing
 serial_loop_overrun c = refl
 
-pub serial_modem_change : (c : Chip) → AsTold c lists.serial-modem-change
+pub serial_modem_change : (c : Chip) → AsTold c lists.serial_modem_change
 unfolding computing
 serial_modem_change c = refl
 
-pub serial_read_only : (c : Chip) → AsTold c lists.serial-read-only
+pub serial_read_only : (c : Chip) → AsTold c lists.serial_read_only
 unfolding computing
 serial_read_only c = refl
 
-pub serial_reset_values : (c : Chip) → AsTold c lists.serial-reset-values
+pub serial_reset_values : (c : Chip) → AsTold c lists.serial_reset_values
 unfolding computing
 serial_reset_values c = refl
 
-pub serial_thr_burst : (c : Chip) → AsTold c lists.serial-thr-burst
+pub serial_thr_burst : (c : Chip) → AsTold c lists.serial_thr_burst
 unfolding computing
 serial_thr_burst c = refl
 
-pub serial_transmitter_again : (c : Chip) → AsTold c lists.serial-transmitter-again
+pub serial_transmitter_again : (c : Chip) → AsTold c lists.serial_transmitter_again
 unfolding computing
 serial_transmitter_again c = refl
 
-pub serial_trigger_level : (c : Chip) → AsTold c lists.serial-trigger-level
+pub serial_trigger_level : (c : Chip) → AsTold c lists.serial_trigger_level
 unfolding computing
 serial_trigger_level c = refl
 
-pub serial_wide_mcr : (c : Chip) → AsTold c lists.serial-wide-mcr
+pub serial_wide_mcr : (c : Chip) → AsTold c lists.serial_wide_mcr
 unfolding computing
 serial_wide_mcr c = refl
 
-pub freebsd_by_codes : (c : Chip) → AsTold c lists.freebsd-by-codes
+pub freebsd_by_codes : (c : Chip) → AsTold c lists.freebsd_by_codes
 unfolding computing
 freebsd_by_codes c = refl
 
-pub linux_8250_start : (c : Chip) → AsTold c lists.linux-8250-start
+pub linux_8250_start : (c : Chip) → AsTold c lists.linux_8250_start
 unfolding computing
 linux_8250_start c = refl
 
-pub seabios_detection : (c : Chip) → AsTold c lists.seabios-detection
+pub seabios_detection : (c : Chip) → AsTold c lists.seabios_detection
 unfolding computing
 seabios_detection c = refl
 
-pub xen_until_none : (c : Chip) → AsTold c lists.xen-until-none
+pub xen_until_none : (c : Chip) → AsTold c lists.xen_until_none
 unfolding computing
 xen_until_none c = refl

@@ -20,9 +20,9 @@ use Rattle.pc16550d.specs.Compare.{Done, chip_of, enables, Agrees}
 
 -- The device's names for the chip's registers.
 abbrev pub named : Register → chip.Register
-named RBR_THR = chip.RBR-THR
+named RBR_THR = chip.RBR_THR
 named IER = chip.IER
-named IIR_FCR = chip.IIR-FCR
+named IIR_FCR = chip.IIR_FCR
 named LCR = chip.LCR
 named MCR = chip.MCR
 named LSR = chip.LSR

@@ -29,13 +29,13 @@ runs = sidebyside.runs pair Sound AgreesAt alike same keeps complete (λ p k. re
 
 -- A run without a row looks alike from beginning to end.
 pub row_free : (p : Port) → Sound p → (os : List Op) → RowFree pair p os → SameRun pair p (chip_of p) os
-row_free = sidebyside.row-free pair Sound AgreesAt alike same keeps complete (λ p k. real p)
+row_free = sidebyside.row_free pair Sound AgreesAt alike same keeps complete (λ p k. real p)
 
 -- In the row of the burst too the port after the write is, on the chip, the chip after it: the rise is missed and nothing else, and the run
 -- goes on from there.
 pub thr_in_step : (p : Port) → Sound p → (v : ℕ) → is_open p ≡ false → (in_loop p ≡ true → length p.waiting < 16)
     → chip_of (device_does p (write 0 v)).port ≡ (chip_does (chip_of p) (write 0 v)).chip
-unfolding device_does chip_does chip_of addressed register_at device.writeRegister write_register
+unfolding device_does chip_does chip_of addressed register_at device.write_register write_register
 thr_in_step p k v closed few = rw closed (thr_next p v k _ refl few)
 
 -- From reset: the fresh device is the chip, with CTS, DSR and DCD on at its pins, after a master reset and the writes of `set_up`.

@@ -197,43 +197,43 @@ module _ (p : Port) (f : Bool) (t m : ℕ) (small : m < 0x10) (quiet : modem_sta
 
   -- ---- Reads
   abbrev ReadGoes : Register → Type 0
-  ReadGoes r = Goes c (compared (named r)) (accessed (read_register p r)) (chip.readRegister c (named r))
+  ReadGoes r = Goes c (compared (named r)) (accessed (read_register p r)) (chip.read_register c (named r))
 
-  code_is : chip.code c ≡ shown (chip.receivedData c) (f && ltb (length p.waiting) t) (chip.transmitterEmpty c)
+  code_is : chip.code c ≡ shown (chip.received_data c) (f && ltb (length p.waiting) t) (chip.transmitter_empty c)
   unfolding chip.code chip_of
   code_is = rw quiet
 
-  code_of : chip.code (chip_of p) ≡ shown (chip.receivedData c) (ltb (length p.waiting) 1) (chip.transmitterEmpty c)
+  code_of : chip.code (chip_of p) ≡ shown (chip.received_data c) (ltb (length p.waiting) 1) (chip.transmitter_empty c)
   unfolding chip.code chip_of
   code_of = refl
 
   same_code : eqb (chip.code c) 0x02 ≡ eqb (chip.code (chip_of p)) 0x02
   same_code =
       rw (code_is, code_of)
-      (shows_transmitter (chip.receivedData c) (f && ltb (length p.waiting) t) (chip.transmitterEmpty c)
-      ∙ sym (shows_transmitter (chip.receivedData c) (ltb (length p.waiting) 1) (chip.transmitterEmpty c)))
+      (shows_transmitter (chip.received_data c) (f && ltb (length p.waiting) t) (chip.transmitter_empty c)
+      ∙ sym (shows_transmitter (chip.received_data c) (ltb (length p.waiting) 1) (chip.transmitter_empty c)))
 
   iir_part : bit_and (chip.code (chip_of p) + 0xc0) 0x37 ≡ bit_and (chip.code c + cond f 0xc0 0) 0x37
   iir_part =
       rw (code_of, code_is)
-      (shown_part (chip.receivedData c) (ltb (length p.waiting) 1) (chip.transmitterEmpty c) true
-      ∙ sym (shown_part (chip.receivedData c) (f && ltb (length p.waiting) t) (chip.transmitterEmpty c) f))
+      (shown_part (chip.received_data c) (ltb (length p.waiting) 1) (chip.transmitter_empty c) true
+      ∙ sym (shown_part (chip.received_data c) (f && ltb (length p.waiting) t) (chip.transmitter_empty c) f))
 
-  iir_next : chip.withInterrupts c (after_iir c) ≡ tuned f t m (chip.withInterrupts (chip_of p) (after_iir (chip_of p)))
+  iir_next : chip.with_interrupts c (after_iir c) ≡ tuned f t m (chip.with_interrupts (chip_of p) (after_iir (chip_of p)))
   unfolding after_iir
-  iir_next = ap (λ (b : Bool). chip.withInterrupts c (record { ier = c.interrupts.ier; thre = c.interrupts.thre && not b })) same_code
+  iir_next = ap (λ (b : Bool). chip.with_interrupts c (record { ier = c.interrupts.ier; thre = c.interrupts.thre && not b })) same_code
 
   mcr_goes : ReadGoes MCR
-  unfolding chip_of read_register chip.readRegister
+  unfolding chip_of read_register chip.read_register
   mcr_goes = goes f t m refl small quiet (omega arith) refl (calm (λ b. b))
 
   agreed_goes : (r : Register) → ReadAgrees p r → ReadGoes r
-  unfolding chip_of read_register chip.readRegister after_iir
+  unfolding chip_of read_register chip.read_register after_iir
   agreed_goes MCR a = mcr_goes
   agreed_goes RBR_THR a =
       let ours : Answer = (accessed (read_register p RBR_THR)).reply in
-      let theirs : Said = (chip.readRegister (chip_of p) chip.RBR-THR).reply in
-      by_agreement a m refl small quiet (fits_by (compared chip.RBR-THR) ours theirs a.alike.reply) refl
+      let theirs : Said = (chip.read_register (chip_of p) chip.RBR_THR).reply in
+      by_agreement a m refl small quiet (fits_by (compared chip.RBR_THR) ours theirs a.alike.reply) refl
   agreed_goes IER a = by_agreement a m refl small quiet refl refl
   agreed_goes LCR a = by_agreement a m refl small quiet refl refl
   agreed_goes LSR a = by_agreement a m refl small quiet (ap (compared chip.LSR) a.alike.reply) refl
@@ -250,31 +250,31 @@ module _ (p : Port) (f : Bool) (t m : ℕ) (small : m < 0x10) (quiet : modem_sta
 
   -- ---- Writes
   abbrev WriteGoes : Register → ℕ → Type 0
-  WriteGoes r v = Goes c (λ n. n) (accessed (write_register p r v)) (chip.writeRegister c (named r) v)
+  WriteGoes r v = Goes c (λ n. n) (accessed (write_register p r v)) (chip.write_register c (named r) v)
 
   abbrev Careful : Register → ℕ → Type 0
   Careful r v = careful_write c (named r) v ≡ true
 
   -- ---- FCR
   fcr_goes : (v : ℕ) → Careful IIR_FCR v → (b : Bool) → on v 0x01 ≡ b → WriteGoes IIR_FCR v
-  unfolding chip_of write_register chip.writeRegister write_fcr careful_write
+  unfolding chip_of write_register chip.write_register write_fcr careful_write
   fcr_goes v e true b =
-      let level = chip.triggerLevel v in
+      let level = chip.trigger_level v in
       let ours = fcr_written p v _ refl in
-      let waits : List ℕ → Chip = λ w. tuned true level m (chip.withReceiver (chip_of p) (holding (chip_of p).receiver w false)) in
+      let waits : List ℕ → Chip = λ w. tuned true level m (chip.with_receiver (chip_of p) (holding (chip_of p).receiver w false)) in
       goes true level m
       (rw b (ap waits (same_left (on v 0x02 || not f) (on v 0x02) p.waiting (rw b at e))) ∙ ap (tuned true level m) (sym ours.next))
       small quiet tt ours.sent ours.signal
   fcr_goes v e false b =
       let ours = fcr_written p v _ refl in
-      let waits : List ℕ → Chip = λ w. tuned false t m (chip.withReceiver (chip_of p) (holding (chip_of p).receiver w false)) in
+      let waits : List ℕ → Chip = λ w. tuned false t m (chip.with_receiver (chip_of p) (holding (chip_of p).receiver w false)) in
       goes false t m
       (rw b (ap waits (same_left f (on v 0x02) p.waiting (rw b at e))) ∙ ap (tuned false t m) (sym ours.next))
       small quiet tt ours.sent ours.signal
 
   -- ---- MCR
   mcr_written : (v : ℕ) → Careful MCR v → WriteGoes MCR v
-  unfolding chip_of write_register chip.writeRegister write_mcr careful_write
+  unfolding chip_of write_register chip.write_register write_mcr careful_write
   mcr_written v e =
       goes f t (write_mcr c.modem v).changes refl (or_small m _ small (changed_small _ _))
       (none_signalled (eqb (write_mcr c.modem v).changes 0) (on p.settings.ier 0x08) e) tt refl (calm (λ x. x))
@@ -287,7 +287,7 @@ module _ (p : Port) (f : Bool) (t m : ℕ) (small : m < 0x10) (quiet : modem_sta
       not_again (enables p transmitter_empty) (on (bit_and v 0x0f) 0x02) (active p transmitter_empty) h before now idle
 
   ier_goes : (v : ℕ) → Careful IER v → WriteAgrees p IER v ⊎ Row p (writes IER v) → WriteGoes IER v
-  unfolding chip_of write_register chip.writeRegister write_ier careful_write ier_stored
+  unfolding chip_of write_register chip.write_register write_ier careful_write ier_stored
   ier_goes v e a =
       let ier = bit_and v 0x0f in
       let waits : Bool = not (enables p transmitter_empty) || active p transmitter_empty in
@@ -315,7 +315,7 @@ module _ (p : Port) (f : Bool) (t m : ℕ) (small : m < 0x10) (quiet : modem_sta
   thr_quiet v true l = rw (loop_kept, l) quiet
   thr_quiet v false l = rw (loop_kept, l) quiet
 
-  thr_signal : (v : ℕ) → Signal (line p) (line (device.writeThr p v).port) (device.writeThr p v).raises
+  thr_signal : (v : ℕ) → Signal (line p) (line (device.write_thr p v).port) (device.write_thr p v).raises
   unfolding is_high
   thr_signal v =
       let w = written p v _ _ refl refl in
@@ -325,12 +325,12 @@ module _ (p : Port) (f : Bool) (t m : ℕ) (small : m < 0x10) (quiet : modem_sta
       let b' = enables p transmitter_empty in
       rw (w.level, w.raised) (subst (Signal (r || b) (r' || b')) (omega arith) (each_raised r' b' r b))
 
-  thr_sent : (v : ℕ) (l : Bool) → in_loop p ≡ l → (device.writeThr p v).sent ≡ (write_thr c v).sent
+  thr_sent : (v : ℕ) (l : Bool) → in_loop p ≡ l → (device.write_thr p v).sent ≡ (write_thr c v).sent
   unfolding chip_of write_thr
   thr_sent v l e = same_sent p v l e
 
   thr_goes : Sound p → (v : ℕ) → Careful RBR_THR v → WriteGoes RBR_THR v
-  unfolding write_register chip.writeRegister write_thr
+  unfolding write_register chip.write_register write_thr
   thr_goes k v e =
       let few : in_loop p ≡ true → length p.waiting < 16 = λ l. omega (arith, loop_room v e l, depth_below f) in
       goes f t m (thr_tuned v e _ refl ∙ ap (tuned f t m) (sym (thr_next p v k _ refl few))) small (thr_quiet v _ refl) tt
@@ -338,7 +338,7 @@ module _ (p : Port) (f : Bool) (t m : ℕ) (small : m < 0x10) (quiet : modem_sta
 
   -- ---- All registers
   write_goes : Sound p → (r : Register) (v : ℕ) → Careful r v → WriteGoes r v
-  unfolding chip_of write_register chip.writeRegister
+  unfolding chip_of write_register chip.write_register
   write_goes k RBR_THR v e = thr_goes k v e
   write_goes k IER v e = ier_goes v e (ier_write p v)
   write_goes k IIR_FCR v e = fcr_goes v e _ refl
@@ -397,7 +397,7 @@ module _ (p : Port) (f : Bool) (t m : ℕ) (small : m < 0x10) (quiet : modem_sta
   unfolding device_does chip_does chip_of careful
   one_goes k (read address) e =
       let r = addressed (is_open p) address in
-      subst (λ (x : chip.Register). Goes c (compared x) (accessed (read_register p r)) (chip.readRegister c x)) (sym (same_map (is_open p) address))
+      subst (λ (x : chip.Register). Goes c (compared x) (accessed (read_register p r)) (chip.read_register c x)) (sym (same_map (is_open p) address))
       (read_goes r (read_complete p k r))
   one_goes k (write address v) e = rw same_map (write_goes k (addressed (is_open p) address) v (rw same_map at e))
   one_goes k (input bytes) e = input_goes bytes e (input_complete p k bytes)

@@ -10,5 +10,5 @@ use Rattle.pc16550d.specs.Chip as chip
 use Rattle.pc16550d.specs.Compare.{device_does, chip_of}
 
 unfoldable pub computing : Unit {0}
-unfolding ier_stored is_high code settled lsr_ready lsr_after_read is_loop msr_read addressed read_register receives device.writeIer device.writeFcr write_line write_loop write_register input_of register_at master_reset pin chip.code after_iir write_ier loads transmits arrives arrive_all trigger_level write_fcr inputs changed write_mcr chip.readRegister write_thr chip.writeRegister from_line chip_does rising device_does chip_of
+unfolding ier_stored is_high code settled lsr_ready lsr_after_read is_loop msr_read addressed read_register receives device.write_ier device.write_fcr write_line write_loop write_register input_of register_at master_reset pin chip.code after_iir write_ier loads transmits arrives arrive_all trigger_level write_fcr inputs changed write_mcr chip.read_register write_thr chip.write_register from_line chip_does rising device_does chip_of
 computing = tt

@@ -16,11 +16,11 @@ use Rattle.pc16550d.proofs.Writing.{WriteAgrees}
 
 module _ (p : Port) (v : ℕ) where
   abbrev after : Port
-  after = (device.writeIer p v).port
+  after = (device.write_ier p v).port
 
   -- On the device the transmitter's interrupt is active if it is enabled now.
   signalled : active after transmitter_empty ≡ is_enabled (ier_stored v) transmitter_empty
-  unfolding device.writeIer
+  unfolding device.write_ier
   signalled = set_active (ier_stored v) p.iir (some p.waiting)
 
   -- It is pending on the chip too. e, n: it was enabled, is now; t: it was active.
@@ -36,7 +36,7 @@ module _ (p : Port) (v : ℕ) where
 
   ier_agrees : Same (enables p transmitter_empty) (is_enabled (ier_stored v) transmitter_empty) (active p transmitter_empty)
       → WriteAgrees p IER v
-  unfolding write_register device.writeIer chip.writeRegister write_ier chip_of ier_stored is_high
+  unfolding write_register device.write_ier chip.write_register write_ier chip_of ier_stored is_high
   ier_agrees s =
       agrees p tt refl (simp (signalled, ← s))
       (each_raised (active after received_data) (active after transmitter_empty) (active p received_data) (active p transmitter_empty))
@@ -51,6 +51,6 @@ module _ (p : Port) (v : ℕ) where
       go (inr (e, n, t)) = inr (serial_transmitter_again e n t)
 
   pub ier_real : Row p (writes IER v) → WriteAgrees p IER v → ⊥
-  unfolding chip_of write_register device.writeIer chip.writeRegister write_ier ier_stored
+  unfolding chip_of write_register device.write_ier chip.write_register write_ier ier_stored
   ier_real (serial_transmitter_again e n t) a =
       true≢false (sym n ∙ sym signalled ∙ ap (λ (c : Chip). c.interrupts.thre) a.next ∙ rw (t, n, e))

@@ -17,7 +17,7 @@ use Rattle.pc16550d.proofs.Enabling.{ier_write, ier_real}
 use Rattle.pc16550d.proofs.OnLine.{input_complete, input_real}
 
 write_complete : (p : Port) → Sound p → (r : Register) (v : ℕ) → WriteAgrees p r v ⊎ Row p (writes r v)
-unfolding chip_of write_register chip.writeRegister
+unfolding chip_of write_register chip.write_register
 write_complete p k RBR_THR v = thr_write p v k _ refl (dec_lt (length p.waiting) 16)
 write_complete p k IER v = ier_write p v
 write_complete p k IIR_FCR v = fcr_write p v _ _ refl refl (ℕ_discrete (trigger_level v) 1)

@@ -80,7 +80,7 @@ line_agrees p x xs k l h =
     let s = k.size in
     let d = active p received_data in
     let t = active p transmitter_empty in
-    let all : take (min (device.roomOf p) (length (x ∷ xs))) (x ∷ xs) ≡ x ∷ xs = take_all (min (device.roomOf p) (length (x ∷ xs))) (x ∷ xs) (omega arith) in
+    let all : take (min (device.room_of p) (length (x ∷ xs))) (x ∷ xs) ≡ x ∷ xs = take_all (min (device.room_of p) (length (x ∷ xs))) (x ∷ xs) (omega arith) in
     let none_lost = all_fit (chip_of p).receiver (x ∷ xs) refl h in
     simp (loop_kept, l, none_lost, lt-ltb (length p.waiting) p.size (omega arith), ne_eqb (length (x ∷ xs)) 0 (omega arith), all)
     (agrees p (omega arith) refl r.next (rw (r.level, r.raised) (data_raised d (enables p received_data) t)))

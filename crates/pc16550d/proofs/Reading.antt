@@ -21,7 +21,7 @@ use Rattle.pc16550d.specs.Compare.{accessed, chip_of, enables, Sound, Agrees, Ro
 use Rattle.pc16550d.proofs.Agreement.{named, code_is, agrees, quietly, calm}
 
 abbrev pub ReadAgrees : Port → Register → Type 0
-ReadAgrees p r = Agrees (chip_of p) (accessed (read_register p r)) (chip.readRegister (chip_of p) (named r))
+ReadAgrees p r = Agrees (chip_of p) (accessed (read_register p r)) (chip.read_register (chip_of p) (named r))
 
 -- ---- LSR
 lsr_says : (waiting : List ℕ) → cond (some waiting) 0x61 0x60 ≡ 0x60 + 0 + cond (some waiting) 0x01 0
@@ -29,7 +29,7 @@ lsr_says [] = refl
 lsr_says (x ∷ xs) = refl
 
 lsr_read : (p : Port) → Sound p → ReadAgrees p LSR
-unfolding chip_of read_register chip.readRegister
+unfolding chip_of read_register chip.read_register
 lsr_read p k = quietly p (k.lsr ∙ lsr_says p.waiting) refl refl
 
 -- ---- RBR
@@ -51,14 +51,14 @@ first_fits [] = tt
 first_fits (x ∷ xs) = refl
 
 rbr_read : (p : Port) → ReadAgrees p RBR_THR
-unfolding chip_of read_register chip.readRegister is_high
+unfolding chip_of read_register chip.read_register is_high
 rbr_read p =
     let k = kept p.settings.ier p.iir (some (tail p.waiting)) in
     agrees p (first_fits p.waiting) refl (rw k) (calm (rw k (fewer p.waiting (enables p received_data) (active p transmitter_empty))))
 
 -- ---- MCR and MSR
 mcr_read : (p : Port) → Dec (p.settings.mcr < 0x20) → ReadAgrees p MCR ⊎ Row p (reads MCR)
-unfolding chip_of read_register chip.readRegister
+unfolding chip_of read_register chip.read_register
 mcr_read p (yes h) = inl (quietly p (omega arith) refl refl)
 mcr_read p (no h) = inr (serial_wide_mcr (omega arith))
 
@@ -86,7 +86,7 @@ msr_says mcr msr true l z = rw (loop_kept, l) (wired_kept mcr (msr % 0x10) z)
 msr_says mcr msr false l z = rw (loop_kept, l) (omega arith)
 
 msr_read_lem : (p : Port) → Sound p → ReadAgrees p MSR
-unfolding chip_of read_register chip.readRegister
+unfolding chip_of read_register chip.read_register
 msr_read_lem p k = quietly p (msr_says p.settings.mcr p.msr _ refl k.msr) refl refl
 
 -- ---- IIR
@@ -114,7 +114,7 @@ no_rise false true n e = absurd (true≢false e)
 no_rise false false n e = refl
 
 iir_read : (p : Port) → ReadAgrees p IIR_FCR
-unfolding chip_of read_register chip.readRegister after_iir is_high code
+unfolding chip_of read_register chip.read_register after_iir is_high code
 iir_read p =
     let r = active p received_data in
     let t = active p transmitter_empty in
@@ -125,7 +125,7 @@ iir_read p =
 
 -- MCR's high bits show.
 not_wide : (p : Port) → 0x20 ≤ p.settings.mcr → ReadAgrees p MCR → ⊥
-unfolding read_register chip.readRegister chip_of
+unfolding read_register chip.read_register chip_of
 not_wide p h a = let z : p.settings.mcr ≡ p.settings.mcr % 0x20 = a.alike.reply in omega arith
 
 -- ---- In a row a read does not agree
@@ -134,7 +134,7 @@ read_real p _ (serial_wide_mcr h) a = not_wide p h a
 
 -- ---- Each read agrees or is in a row
 pub read_complete : (p : Port) → Sound p → (r : Register) → ReadAgrees p r ⊎ Row p (reads r)
-unfolding chip_of read_register chip.readRegister
+unfolding chip_of read_register chip.read_register
 read_complete p k RBR_THR = inl (rbr_read p)
 read_complete p k IER = inl (quietly p refl refl refl)
 read_complete p k IIR_FCR = inl (iir_read p)

@@ -45,7 +45,7 @@ pub record Written (p q : Port) (raises : ℕ) : Type 0 where
   pub raised : raises ≡ newly (active p transmitter_empty) (enables p transmitter_empty) + newly (active p received_data) (data_after p)
 
 pub written : (p : Port) (v : ℕ) (l room : Bool) → in_loop p ≡ l → has_room p ≡ room
-    → Written p (device.writeThr p v).port (device.writeThr p v).raises
+    → Written p (device.write_thr p v).port (device.write_thr p v).raises
 unfolding write_line write_loop is_high
 written p v false room l h =
     rw l (record { level = rw (l, empties p); raised = rw (l, empties_raises p, newly_same (active p received_data)) (sym (add-zero _)) })
@@ -83,17 +83,17 @@ same_left p = rw (empties p)
 
 -- Where the byte is not lost to an overrun, the port after the write is, on the chip, the chip after it.
 pub thr_next : (p : Port) (v : ℕ) → Sound p → (l : Bool) → in_loop p ≡ l → (l ≡ true → length p.waiting < 16)
-    → chip_of (device.writeThr p v).port ≡ (write_thr (chip_of p) v).chip
+    → chip_of (device.write_thr p v).port ≡ (write_thr (chip_of p) v).chip
 unfolding chip_of write_line write_loop write_thr arrives
 thr_next p v k false l h = rw (loop_kept, l) (same_left p)
 thr_next p v k true l h =
     let s = k.size in
     let few = h refl in
-    let comes : Chip → Chip = λ c. chip.withReceiver c (chip.holding c.receiver (p.waiting ++ (v ∷ [])) false) in
+    let comes : Chip → Chip = λ c. chip.with_receiver c (chip.holding c.receiver (p.waiting ++ (v ∷ [])) false) in
     rw (loop_kept, l, lt-ltb (length p.waiting) 16 few, lt-ltb (length p.waiting) p.size (omega arith))
     ((received (emptied p) v []).next ∙ ap comes (same_left p))
 
-pub same_sent : (p : Port) (v : ℕ) (l : Bool) → in_loop p ≡ l → (device.writeThr p v).sent ≡ (write_thr (chip_of p) v).sent
+pub same_sent : (p : Port) (v : ℕ) (l : Bool) → in_loop p ≡ l → (device.write_thr p v).sent ≡ (write_thr (chip_of p) v).sent
 unfolding chip_of write_line write_loop write_thr
 same_sent p v true l = rw (loop_kept, l)
 same_sent p v false l = rw (loop_kept, l)
@@ -108,12 +108,12 @@ thr_agrees : (p : Port) (v : ℕ) → Sound p → (in_loop p ≡ true → length
     → Signal (active p received_data) (data_after p || enables p transmitter_empty)
     (newly (active p transmitter_empty) (enables p transmitter_empty) + newly (active p received_data) (data_after p))
     → WriteAgrees p RBR_THR v
-unfolding write_register chip.writeRegister write_thr
+unfolding write_register chip.write_register write_thr
 thr_agrees p v k few s =
-    let q = (device.writeThr p v).port in
+    let q = (device.write_thr p v).port in
     let w = written p v _ _ refl refl in
     let next = thr_next p v k _ refl few in
-    let fits : Signal (active p received_data) (line q) (device.writeThr p v).raises = rw (w.level, w.raised) s in
+    let fits : Signal (active p received_data) (line q) (device.write_thr p v).raises = rw (w.level, w.raised) s in
     agrees_by p tt (same_sent p v _ refl) next
     (λ e. (let r = thr_rose p v e in fits.rise (sym (held_pin p) ∙ r.0) (sym (pin_is q) ∙ ap pin next ∙ r.1)))
     fits.high
@@ -148,13 +148,13 @@ rises_again true m a f g = rw (f, g)
 rises_again false m a f g = rw (f, g)
 
 pub thr_real : (p : Port) (v : ℕ) → Row p (writes RBR_THR v) → WriteAgrees p RBR_THR v → ⊥
-unfolding chip_of write_register chip.writeRegister write_thr arrives rising
+unfolding chip_of write_register chip.write_register write_thr arrives rising
 thr_real p v (serial_thr_burst t r n) a =
     let enabled : enables p transmitter_empty ≡ true = (both_true (enables p transmitter_empty) _ t).0 in
     let data-none = no_data (in_loop p) (has_room p) (enables p received_data) (active p received_data) n r in
     let w = written p v _ _ refl refl in
-    let high : line (device.writeThr p v).port ≡ true = w.level ∙ rw (data-none, enabled) in
-    let quiet : (device.writeThr p v).raises ≡ 0 = w.raised ∙ rw (data-none, t, r) in
+    let high : line (device.write_thr p v).port ≡ true = w.level ∙ rw (data-none, enabled) in
+    let quiet : (device.write_thr p v).raises ≡ 0 = w.raised ∙ rw (data-none, t, r) in
     omega (arith, quiet, a.alike.rise (rises_again (pin (chip_of p)) _ _ (held_pin p ∙ r) (sym a.alike.level ∙ high)))
 thr_real p v (serial_loop_overrun l h) a =
     false≢true (rw (loop_kept, l, le-ltb (length p.waiting) 16 h) at (ap (λ (c : Chip). c.receiver.overrun) a.next))

@@ -18,7 +18,7 @@ use Rattle.pc16550d.specs.Compare.{serial_trigger_level, serial_modem_change}
 use Rattle.pc16550d.proofs.Agreement.{named, agrees, quietly, Signal, calm}
 
 abbrev pub WriteAgrees : Port → Register → ℕ → Type 0
-WriteAgrees p r v = Agrees (chip_of p) (accessed (write_register p r v)) (chip.writeRegister (chip_of p) (named r) v)
+WriteAgrees p r v = Agrees (chip_of p) (accessed (write_register p r v)) (chip.write_register (chip_of p) (named r) v)
 
 -- ---- FCR
 
@@ -30,13 +30,13 @@ none_left false w t e = e
 
 -- What the device does, read as the chip: by 0x02 the receiver is empty, and else nothing happens.
 pub record Written (p : Port) (v : ℕ) (empties : Bool) : Type 0 where
-  pub next : chip_of (device.writeFcr p v).port
+  pub next : chip_of (device.write_fcr p v).port
       ≡ with_receiver (chip_of p) (holding (chip_of p).receiver (cond empties [] p.waiting) false)
-  pub sent : (device.writeFcr p v).sent ≡ []
-  pub signal : Signal (line p) (line (device.writeFcr p v).port) (device.writeFcr p v).raises
+  pub sent : (device.write_fcr p v).sent ≡ []
+  pub signal : Signal (line p) (line (device.write_fcr p v).port) (device.write_fcr p v).raises
 
 pub fcr_written : (p : Port) (v : ℕ) (empties : Bool) → on v 0x02 ≡ empties → Written p v empties
-unfolding chip_of device.writeFcr is_high
+unfolding chip_of device.write_fcr is_high
 fcr_written p v true e =
     let k = settled_keeps p.settings.ier p.iir false in
     record {
@@ -48,7 +48,7 @@ fcr_written p v false e = record { next = rw e; sent = rw e; signal = rw e (calm
 
 -- The bytes that wait after a write of FCR are the same on both exactly where it is not in `serial_fifo_empty`. x, y: FCR 0x01 and 0x02.
 abbrev SameBytes : Port → ℕ → Type 0
-SameBytes p v = (device.writeFcr p v).port.waiting ≡ (write_fcr (chip_of p).receiver v).waiting
+SameBytes p v = (device.write_fcr p v).port.waiting ≡ (write_fcr (chip_of p).receiver v).waiting
 
 chip_bytes : (p : Port) (v : ℕ) (x : Bool) → on v 0x01 ≡ x
     → (write_fcr (chip_of p).receiver v).waiting ≡ cond x (cond (on v 0x02 || false) [] p.waiting) []
@@ -56,7 +56,7 @@ unfolding chip_of write_fcr
 chip_bytes p v true e = rw e
 chip_bytes p v false e = rw e
 
-device_bytes : (p : Port) (v : ℕ) → (device.writeFcr p v).port.waiting ≡ cond (on v 0x02) [] p.waiting
+device_bytes : (p : Port) (v : ℕ) → (device.write_fcr p v).port.waiting ≡ cond (on v 0x02) [] p.waiting
 unfolding chip_of
 device_bytes p v = ap (λ (c : Chip). c.receiver.waiting) (fcr_written p v _ refl).next
 
@@ -82,7 +82,7 @@ fcr_other_bytes p v e same =
 
 pub fcr_write : (p : Port) (v : ℕ) (enables empties : Bool) → on v 0x01 ≡ enables → on v 0x02 ≡ empties → Dec (trigger_level v ≡ 1)
     → WriteAgrees p IIR_FCR v ⊎ Row p (writes IIR_FCR v)
-unfolding chip_of write_register chip.writeRegister write_fcr
+unfolding chip_of write_register chip.write_register write_fcr
 fcr_write p v false f a b d = inr (serial_fifo_off a)
 fcr_write p v true f a b (no d) = inr (serial_trigger_level a d)
 fcr_write p v true f a b (yes d) =
@@ -90,17 +90,17 @@ fcr_write p v true f a b (yes d) =
     inl (agrees p tt w.sent (w.next ∙ rw (a, b, d, or-false)) w.signal)
 
 pub fcr_real : (p : Port) (v : ℕ) → Row p (writes IIR_FCR v) → WriteAgrees p IIR_FCR v → ⊥
-unfolding chip_of write_register chip.writeRegister write_fcr
+unfolding chip_of write_register chip.write_register write_fcr
 fcr_real p v (serial_fifo_off a) r = true≢false (simp a at (ap (λ (c : Chip). c.receiver.fifos) r.next))
 fcr_real p v (serial_fifo_empty e) r = fcr_other_bytes p v e (ap (λ (c : Chip). c.receiver.waiting) r.next)
 fcr_real p v (serial_trigger_level a n) r = n (sym (simp a at (ap (λ (c : Chip). c.receiver.trigger) r.next)))
 
 -- ---- MCR
 pub mcr_write : (p : Port) (v : ℕ) → Dec ((write_mcr (chip_of p).modem v).changes ≡ 0) → WriteAgrees p MCR v ⊎ Row p (writes MCR v)
-unfolding chip_of write_register chip.writeRegister write_mcr
+unfolding chip_of write_register chip.write_register write_mcr
 mcr_write p v (no d) = inr (serial_modem_change d)
 mcr_write p v (yes d) = inl (quietly p tt (rw d) refl)
 
 pub mcr_real : (p : Port) (v : ℕ) → Row p (writes MCR v) → WriteAgrees p MCR v → ⊥
-unfolding chip_of write_register chip.writeRegister
+unfolding chip_of write_register chip.write_register
 mcr_real p v (serial_modem_change n) r = n (sym (ap (λ (c : Chip). c.modem.changes) r.next))

@@ -113,9 +113,9 @@ pub data Row (p : Port) : Access → Type 0 where
   -- Of these, where 0x02 is off too and bytes wait: the chip loses them, as its FIFOs are turned off; the device keeps them.
   serial_fifo_empty : {v : ℕ} → off_with_bytes p v ≡ true → Row p (writes IIR_FCR v)
   -- FCR is written with a trigger level above 1: below it the chip identifies received data as the time-out.
-  serial_trigger_level : {v : ℕ} → on v 0x01 ≡ true → (chip.triggerLevel v ≡ 1 → ⊥) → Row p (writes IIR_FCR v)
+  serial_trigger_level : {v : ℕ} → on v 0x01 ≡ true → (chip.trigger_level v ≡ 1 → ⊥) → Row p (writes IIR_FCR v)
   -- MCR is written, and by way of the loop a modem input changes: the chip keeps the change in MSR's low half, and signals it.
-  serial_modem_change : {v : ℕ} → ((chip.writeMcr (chip_of p).modem v).changes ≡ 0 → ⊥) → Row p (writes MCR v)
+  serial_modem_change : {v : ℕ} → ((chip.write_mcr (chip_of p).modem v).changes ≡ 0 → ⊥) → Row p (writes MCR v)
 
 abbrev pub RowAt : Port → Op → Type 0
 RowAt p o = Row p (access_of p o)

@@ -13,21 +13,21 @@ reply (replied v e n) = v
 reply (sent s e n) = 0
 reply (took t n) = 0
 reply (full n) = 0
-reply (runs.hasRoom r) = 0
+reply (runs.has_room r) = 0
 
 abbrev pub taken : Answer → ℕ
 taken (replied v e n) = 0
 taken (sent s e n) = 0
 taken (took t n) = t
 taken (full n) = 0
-taken (runs.hasRoom r) = 0
+taken (runs.has_room r) = 0
 
 abbrev pub events_of : Answer → Events
 events_of (replied v e n) = e
 events_of (sent s e n) = e
 events_of (took t n) = no_events
 events_of (full n) = no_events
-events_of (runs.hasRoom r) = no_events
+events_of (runs.has_room r) = no_events
 
 -- Accepted: of an input, as many of its bytes as were taken; in the loop, the byte written, where the answer says that it waits.
 unfoldable pub accepted : Op → Answer → List ℕ

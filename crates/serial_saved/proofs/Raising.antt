@@ -40,8 +40,8 @@ high_raised p h = go (active p received_data) (active p transmitter_empty) h (co
     go false false h e = absurd (false≢true h)
 
 -- IER lies at 1, IIR at 2.
-pub as_raised : (saved : List ℕ) (waits : Bool) (r : ℕ) → r ≡ interrupts.raisedAgain (get_or saved 1 0) (get_or saved 2 0) waits
+pub as_raised : (saved : List ℕ) (waits : Bool) (r : ℕ) → r ≡ interrupts.raised_again (get_or saved 1 0) (get_or saved 2 0) waits
     → (waiting : List ℕ) → some waiting ≡ waits → r ≡ length (raised_again (saved_of saved waiting))
 unfolding saved_of port_of
 as_raised saved waits r e waiting w =
-    e ∙ ap (λ (b : Bool). interrupts.raisedAgain (get_or saved 1 0) (get_or saved 2 0) b) (sym w) ∙ sym (counted (saved_of saved waiting)).0
+    e ∙ ap (λ (b : Bool). interrupts.raised_again (get_or saved 1 0) (get_or saved 2 0) b) (sym w) ∙ sym (counted (saved_of saved waiting)).0

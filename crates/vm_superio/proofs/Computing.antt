@@ -9,5 +9,5 @@ use Rattle.vm_superio.specs.Original as original
 use Rattle.vm_superio.specs.Beside.{drained, run_beside}
 
 unfoldable pub computing : Unit {0}
-unfolding ier_stored code settled lsr_ready lsr_after_read is_loop msr_read addressed read_register receives write_line write_loop write_ier write_fcr write_register input_of step run mark unmark announce read_rbr iir_read original.ierStored original.readRegister original.receives original.writeLine original.writeIer original.writeRegister original.input_of original.step original.run drained run_beside
+unfolding ier_stored code settled lsr_ready lsr_after_read is_loop msr_read addressed read_register receives write_line write_loop write_ier write_fcr write_register input_of step run mark unmark announce read_rbr iir_read original.ier_stored original.read_register original.receives original.write_line original.write_ier original.write_register original.input_of original.step original.run drained run_beside
 computing = tt

@@ -26,20 +26,20 @@ module _ (p : Port) (j : ℕ) where
   pub theirs_receives : (bytes : List ℕ)
       → (original.receives (twin p j) bytes).raises ≡ once (enables p received_data && not (marks_data (twin p j)))
   unfolding original.receives
-  theirs_receives bytes = announce_raises ier j original.receivedData
+  theirs_receives bytes = announce_raises ier j original.received_data
 
-  pub ours_line : (v : ℕ) → (ours.writeLine p v).raises ≡ once (loop_transmitter p)
-  unfolding ours.writeLine
+  pub ours_line : (v : ℕ) → (ours.write_line p v).raises ≡ once (loop_transmitter p)
+  unfolding ours.write_line
   ours_line v = sent_raises ier p.iir (waits p)
 
   pub theirs_line : (v : ℕ)
-      → (original.writeLine (twin p j) v).raises ≡ once (enables p transmitter_empty && not (marks_transmitter (twin p j)))
-  unfolding original.writeLine
-  theirs_line v = announce_raises ier j original.transmitterEmpty
+      → (original.write_line (twin p j) v).raises ≡ once (enables p transmitter_empty && not (marks_transmitter (twin p j)))
+  unfolding original.write_line
+  theirs_line v = announce_raises ier j original.transmitter_empty
 
   pub ours_loop : (v : ℕ)
-      → (ours.writeLoop p v).raises ≡ once (has_room p && (enables p received_data && not (waits p))) + once (loop_transmitter p)
-  unfolding ours.writeLoop ours.receives
+      → (ours.write_loop p v).raises ≡ once (has_room p && (enables p received_data && not (waits p))) + once (loop_transmitter p)
+  unfolding ours.write_loop ours.receives
   ours_loop v = go (has_room p)
     where
       go : (t : Bool)
@@ -49,7 +49,7 @@ module _ (p : Port) (j : ℕ) where
       go false = rw (sent_raises ier p.iir (waits p)) (add_comm _ _)
 
   pub theirs_loop : (v : ℕ)
-      → (original.writeLoop (twin p j) v).raises ≡ once (has_room p && (enables p received_data && not (marks_data (twin p j)))) + once false
+      → (original.write_loop (twin p j) v).raises ≡ once (has_room p && (enables p received_data && not (marks_data (twin p j)))) + once false
   theirs_loop v = go (has_room p)
     where
       go : (t : Bool) → (cond {A = original.Out} t (original.receives (twin p j) (v ∷ [])) (original.becomes (twin p j))).raises
@@ -61,12 +61,12 @@ module _ (p : Port) (j : ℕ) where
     abbrev ier' : ℕ
     ier' = ier_stored v
 
-    pub ours_ier : (ours.writeIer p v).raises
+    pub ours_ier : (ours.write_ier p v).raises
         ≡ once (is_enabled ier' received_data && waits p && not (enables p received_data)) + once (is_enabled ier' transmitter_empty && not (active p transmitter_empty))
-    unfolding ours.writeIer
+    unfolding ours.write_ier
     ours_ier = enabling_raises ier ier' p.iir (waits p)
 
-    pub theirs_ier : (original.writeIer (twin p j) v).raises
+    pub theirs_ier : (original.write_ier (twin p j) v).raises
         ≡ once (waits p && (is_enabled ier' received_data && not (marks_data (twin p j)))) + once (is_enabled ier' transmitter_empty && not (marks_transmitter (twin p j)))
-    unfolding original.writeIer original.ierStored ier_stored
-    theirs_ier = marks.enabling-raises (original.ierStored v) j (waits p)
+    unfolding original.write_ier original.ier_stored ier_stored
+    theirs_ier = marks.enabling_raises (original.ier_stored v) j (waits p)

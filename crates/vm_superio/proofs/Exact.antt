@@ -42,11 +42,11 @@ reply_of (replied v e n) = v
 reply_of (sent s e n) = 0
 reply_of (took t n) = 0
 reply_of (full n) = 0
-reply_of (runs.hasRoom r) = 0
+reply_of (runs.has_room r) = 0
 
 module _ (p : Port) (j : ℕ) where
-  read_complete : (r : Register) → ReadAgrees (read_register p r) (original.readRegister (twin p j) r) ⊎ Row p (twin p j) (reads r)
-  unfolding read_register original.readRegister original.readRbr
+  read_complete : (r : Register) → ReadAgrees (read_register p r) (original.read_register (twin p j) r) ⊎ Row p (twin p j) (reads r)
+  unfolding read_register original.read_register original.read_rbr
   read_complete RBR_THR = inl refl
   read_complete IER = inl refl
   read_complete IIR_FCR = elim (iir_complete p j) [ inl e ↦ inl (ap (λ (v : ℕ). replied v no_events 0) e) | inr row ↦ inr row ]
@@ -59,8 +59,8 @@ module _ (p : Port) (j : ℕ) where
   read_complete DLM = inl refl
   read_complete reserved = inl refl
 
-  read_real : (r : Register) → Row p (twin p j) (reads r) → ReadAgrees (read_register p r) (original.readRegister (twin p j) r) → ⊥
-  unfolding read_register original.readRegister
+  read_real : (r : Register) → Row p (twin p j) (reads r) → ReadAgrees (read_register p r) (original.read_register (twin p j) r) → ⊥
+  unfolding read_register original.read_register
   read_real IIR_FCR row a = iir_real p j row (ap reply_of a)
 
 -- ---- Writes
@@ -72,14 +72,14 @@ to_empty w lsr e f t = true≢false (sym t ∙ rw (e, eq-eqb (lsr_after_read fal
 module _ (p : Port) (j : ℕ) (h : Held p j) where
   -- It answers the same, and leaves the two the same.
   abbrev WriteSame : Register → ℕ → Type 0
-  WriteSame r v = Same (write_register p r v).port (original.writeRegister (twin p j) r v).original
+  WriteSame r v = Same (write_register p r v).port (original.write_register (twin p j) r v).original
 
   abbrev WriteGoes : Register → ℕ → Type 0
-  WriteGoes r v = WriteAgrees (write_register p r v) (original.writeRegister (twin p j) r v) × WriteSame r v
+  WriteGoes r v = WriteAgrees (write_register p r v) (original.write_register (twin p j) r v) × WriteSame r v
 
   fcr_complete : (v : ℕ) (t e : Bool) → on v 0x02 ≡ t → is_to_empty p.waiting p.lsr ≡ e
       → WriteGoes IIR_FCR v ⊎ Row p (twin p j) (writes IIR_FCR v)
-  unfolding write_register original.writeRegister write_fcr
+  unfolding write_register original.write_register write_fcr
   fcr_complete v false e a b = inl (rw a (refl, is_same (remembering p v) j))
   fcr_complete v true true a b = inr (original_keeps_fifo a b)
   fcr_complete v true false a b =
@@ -87,13 +87,13 @@ module _ (p : Port) (j : ℕ) (h : Held p j) where
       inl (rw a (refl, record { settings = refl; lsr = sym none.1; msr = refl; waiting = none.0; size = refl }))
 
   fcr_real : (v : ℕ) → on v 0x02 ≡ true → is_to_empty p.waiting p.lsr ≡ true → WriteSame IIR_FCR v → ⊥
-  unfolding write_register original.writeRegister write_fcr
+  unfolding write_register original.write_register write_fcr
   fcr_real v a b s =
       let same : Same (flushes (remembering p v)).port (twin p j) = rw a at s in
       to_empty p.waiting p.lsr same.waiting (sym same.lsr) b
 
   write_complete : (r : Register) (v : ℕ) → WriteGoes r v ⊎ Row p (twin p j) (writes r v)
-  unfolding is_iir write_register original.writeRegister
+  unfolding is_iir write_register original.write_register
   write_complete RBR_THR v = and_same (write_alike p j h RBR_THR v).beside.same (thr_complete p j h v)
   write_complete IER v = and_same (write_alike p j h IER v).beside.same (ier_complete p j v)
   write_complete IIR_FCR v = fcr_complete v _ _ refl refl
@@ -107,7 +107,7 @@ module _ (p : Port) (j : ℕ) (h : Held p j) where
   write_complete reserved v = inl (refl, is_same _ _)
 
   write_real : (r : Register) (v : ℕ) → Row p (twin p j) (writes r v) → WriteGoes r v → ⊥
-  unfolding write_register original.writeRegister
+  unfolding write_register original.write_register
   write_real RBR_THR v row a = thr_real p j h v row a.0
   write_real IER v row a = ier_real p j v row a.0
   write_real IIR_FCR v (original_keeps_fifo a b) g = fcr_real v a b g.1

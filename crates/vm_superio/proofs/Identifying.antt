@@ -77,10 +77,10 @@ module _ (p : Port) (j : ℕ) where
   ours_shows {r} e f = ap (λ (a : Bool). shows a (active p transmitter_empty)) e ∙ ap (shows r) f
 
   -- the original's marks, by what it shows
-  marks_data : {n : ℕ} → iir_read j ≡ n → is_marked j original.receivedData ≡ on n 0x04
+  marks_data : {n : ℕ} → iir_read j ≡ n → is_marked j original.received_data ≡ on n 0x04
   marks_data e = sym (shown_data j) ∙ ap (λ (n : ℕ). on n 0x04) e
 
-  marks_transmitter : {n : ℕ} → iir_read j ≡ n → is_marked j original.transmitterEmpty ≡ on n 0x02
+  marks_transmitter : {n : ℕ} → iir_read j ≡ n → is_marked j original.transmitter_empty ≡ on n 0x02
   marks_transmitter e = sym (shown_transmitter j) ∙ ap (λ (n : ℕ). on n 0x02) e
 
   pub iir_complete : IirAgrees ⊎ Row p (twin p j) (reads IIR_FCR)
@@ -108,10 +108,10 @@ module _ (p : Port) (j : ℕ) where
     shown : iir_read j ≡ shows (active p received_data) (active p transmitter_empty)
     shown = sym agrees ∙ ours_shows refl refl
 
-    same_data : is_marked j original.receivedData ≡ active p received_data
+    same_data : is_marked j original.received_data ≡ active p received_data
     same_data = marks_data shown ∙ shows_data (active p received_data) (active p transmitter_empty)
 
-    same_transmitter : is_marked j original.transmitterEmpty ≡ (not (active p received_data) && active p transmitter_empty)
+    same_transmitter : is_marked j original.transmitter_empty ≡ (not (active p received_data) && active p transmitter_empty)
     same_transmitter = marks_transmitter shown ∙ shows_transmitter (active p received_data) (active p transmitter_empty)
 
   pub iir_real : Row p (twin p j) (reads IIR_FCR) → IirAgrees → ⊥

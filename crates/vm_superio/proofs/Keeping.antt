@@ -86,8 +86,8 @@ module _ (p : Port) (j : ℕ) (h : Held p j) where
   plainly : (v : ℕ) → Alike false (record { port = p; reply = v; sent = []; events = no_events; raises = 0 }) (original.replies (twin p j) v)
   plainly v = record { beside = record { same = is_same p j; marked = h }; reply = refl; sent = refl; events = refl }
 
-  read_alike : (r : Register) → Alike (is_iir r) (read_register p r) (original.readRegister (twin p j) r)
-  unfolding is_iir read_register original.readRegister original.readRbr
+  read_alike : (r : Register) → Alike (is_iir r) (read_register p r) (original.read_register (twin p j) r)
+  unfolding is_iir read_register original.read_register original.read_rbr
   read_alike RBR_THR = record {
     beside = record {
       same = is_same _ _;
@@ -127,7 +127,7 @@ emptied_held : (p : Port) (j : ℕ) → Held (emptied p) j
 emptied_held p j m e = sent_active p.settings.ier p.iir (some p.waiting) ∙ e
 
 module _ (p : Port) (j : ℕ) (h : Held p j) where
-  loop_alike : (v : ℕ) → Alike false (write_loop p v) (original.writeLoop (twin p j) v)
+  loop_alike : (v : ℕ) → Alike false (write_loop p v) (original.write_loop (twin p j) v)
   unfolding write_loop receives original.receives
   loop_alike v =
       side_by_side (λ (o : Out) (e : original.Out). Alike false
@@ -136,12 +136,12 @@ module _ (p : Port) (j : ℕ) (h : Held p j) where
       (record { beside = receives_beside (emptied p) j (emptied_held p j) (v ∷ []); reply = refl; sent = refl; events = refl })
       (record { beside = record { same = is_same _ _; marked = emptied_held p j }; reply = refl; sent = refl; events = refl })
 
-  line_alike : (v : ℕ) → Alike false (write_line p v) (original.writeLine (twin p j) v)
-  unfolding write_line original.writeLine
-  line_alike v = record { beside = record { same = is_same _ _; marked = emptied_held p (original.writeLine (twin p j) v).original.iir }; reply = refl; sent = refl; events = refl }
+  line_alike : (v : ℕ) → Alike false (write_line p v) (original.write_line (twin p j) v)
+  unfolding write_line original.write_line
+  line_alike v = record { beside = record { same = is_same _ _; marked = emptied_held p (original.write_line (twin p j) v).original.iir }; reply = refl; sent = refl; events = refl }
 
-  ier_alike : (v : ℕ) → Alike false (write_ier p v) (original.writeIer (twin p j) v)
-  unfolding write_ier original.writeIer ier_stored original.ierStored
+  ier_alike : (v : ℕ) → Alike false (write_ier p v) (original.write_ier (twin p j) v)
+  unfolding write_ier original.write_ier ier_stored original.ier_stored
   ier_alike v = record {
     beside = record { same = is_same _ _; marked = λ m e. set_active (ier_stored v) p.iir (some p.waiting) ∙ e };
     reply = refl;
@@ -160,7 +160,7 @@ module _ (p : Port) (j : ℕ) (h : Held p j) where
   emptied_beside : (v : ℕ) (t : Bool) → is_to_empty p.waiting p.lsr ≡ t
       → Beside (flushes (remembering p v)).port (cond t (drained (twin p j)) (twin p j))
   emptied_beside v true e = rw (drained_is (twin p j)) (record {
-    same = is_same (flushes (remembering p v)).port (original.unmark j original.receivedData);
+    same = is_same (flushes (remembering p v)).port (original.unmark j original.received_data);
     marked = λ m g. read_keeps p.settings.ier p.iir false (some p.waiting) ∙ h (sym (data_unmarked_keeps j) ∙ m) g;
   })
   emptied_beside v false e =
@@ -180,9 +180,9 @@ module _ (p : Port) (j : ℕ) (h : Held p j) where
   fcr_alike v false e = rw e (record { beside = record { same = is_same _ _; marked = h }; reply = refl; sent = refl; events = refl })
 
   pub write_alike : (r : Register) (v : ℕ)
-      → let e = original.writeRegister (twin p j) r v in
+      → let e = original.write_register (twin p j) r v in
       AlikeTo false (write_register p r v) e (cond (is_iir r && to_empty v) (drained e.original) e.original)
-  unfolding is_iir write_register original.writeRegister
+  unfolding is_iir write_register original.write_register
   write_alike RBR_THR v = side_by_side (Alike false) (in_loop p) (loop_alike v) (line_alike v)
   write_alike IER v = ier_alike v
   write_alike IIR_FCR v = fcr_alike v _ refl
@@ -223,7 +223,7 @@ module _ (p : Port) (j : ℕ) (h : Held p j) where
   call_kept (write offset v) =
       let r = addressed (is_open p) offset in
       let a = write_alike p j h r v in
-      let after = (original.writeRegister (twin p j) r v).original in
+      let after = (original.write_register (twin p j) r v).original in
       record {
         beside =
             subst (λ (t : Bool). Beside (write_register p r v).port (cond (t && to_empty p j h v) (drained after) after))

@@ -200,5 +200,5 @@ no_quiet false w m h = refl
 
 pub never_quiet : (size : ℕ) (os : List Op) → data_quiet (runs.run (serial.fresh size) os).port (run_beside (fresh size) os).original ≡ false
 never_quiet size os =
-    no_quiet (enables (runs.run (serial.fresh size) os).port interrupts.receivedData) _ _
+    no_quiet (enables (runs.run (serial.fresh size) os).port interrupts.received_data) _ _
     (λ m. ap some (sym (same_from_fresh size os).same.waiting) ∙ marked_waits (beside_reached size os) m)

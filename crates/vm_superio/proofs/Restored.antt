@@ -38,10 +38,10 @@ reached_none_lost : (q : Original) → Reached q → NoneLost q
 reached_none_lost q s = record {
   received = received;
   transmitter = λ t. t;
-  raises = omega (arith, no_fewer (is_told q original.receivedData) (active (ported q) received_data) received);
+  raises = omega (arith, no_fewer (is_told q original.received_data) (active (ported q) received_data) received);
 }
   where
-    received : is_told q original.receivedData ≡ true → active (ported q) received_data ≡ true
+    received : is_told q original.received_data ≡ true → active (ported q) received_data ≡ true
     received t = let both = both_true (on q.settings.ier 0x01) (marks_data q) t in both_are both.0 (marked_waits s both.1)
 
 -- Whatever the original reached from fresh and saved, ours raises what was due.
@@ -96,7 +96,7 @@ module _ (p : Port) (s : Settled p) where
       let a = three_true (is_enabled (ier_stored v) transmitter_empty) (active p transmitter_empty) (not (marks_transmitter (restored p))) x in
       true≢false (sym a.1 ∙ sym marks_active_transmitter ∙ not_true (marks_transmitter (restored p)) a.2)
 
-  told_data : is_told (restored p) original.receivedData ≡ active p received_data
+  told_data : is_told (restored p) original.received_data ≡ active p received_data
   told_data = ap (λ (t : Bool). enables p received_data && t) marks_active_data ∙ twice (enables p received_data) (waits p)
 
   -- The original raises what is active in a settled port, and enabling tells the rest.

@@ -19,7 +19,7 @@ twin_is s = rw (← s.settings, ← s.lsr, ← s.msr, ← s.waiting, ← s.size)
 
 -- Where the original marks the transmitter and it is enabled, ours is active.
 abbrev pub Held : Port → ℕ → Type 0
-Held p j = is_marked j original.transmitterEmpty ≡ true → enables p transmitter_empty ≡ true → active p transmitter_empty ≡ true
+Held p j = is_marked j original.transmitter_empty ≡ true → enables p transmitter_empty ≡ true → active p transmitter_empty ≡ true
 
 pub twins : {p : Port} {q : Original} (P : Original → Type 0) → ((j : ℕ) → Held p j → P (twin p j)) → Beside p q → P q
 twins {p} {q} P all b = subst P (twin_is b.same) (all q.iir b.marked)

@@ -44,12 +44,12 @@ module _ (p : Port) (j : ℕ) (h : Held p j) (v : ℕ) where
   abbrev m : Bool
   m = marks_transmitter (twin p j)
 
-  line_complete : in_loop p ≡ false → WriteAgrees (write_line p v) (original.writeLine (twin p j) v) ⊎ Row p (twin p j) (writes RBR_THR v)
-  unfolding write_line original.writeLine
+  line_complete : in_loop p ≡ false → WriteAgrees (write_line p v) (original.write_line (twin p j) v) ⊎ Row p (twin p j) (writes RBR_THR v)
+  unfolding write_line original.write_line
   line_complete l = go (counted (loop_transmitter p) (e && not m))
     where
       go : (once (loop_transmitter p) ≡ once (e && not m)) ⊎ Off (loop_transmitter p) (e && not m)
-          → WriteAgrees (write_line p v) (original.writeLine (twin p j) v) ⊎ Row p (twin p j) (writes RBR_THR v)
+          → WriteAgrees (write_line p v) (original.write_line (twin p j) v) ⊎ Row p (twin p j) (writes RBR_THR v)
       go (inl same) = inl (ap (sent (v ∷ []) no_events) (ours_line p j v ∙ same ∙ sym (theirs_line p j v)))
       go (inr (more x)) =
           let y = three_true e (not t) m (sym (ours_alone e t m) ∙ x) in
@@ -58,7 +58,7 @@ module _ (p : Port) (j : ℕ) (h : Held p j) (v : ℕ) where
           let y = three_true e t (not m) (sym (theirs_alone e t m) ∙ x) in
           inr (original_sends_again l y.1 (not_true m y.2))
 
-  line_real : t ≡ true → m ≡ false → WriteAgrees (write_line p v) (original.writeLine (twin p j) v) → ⊥
+  line_real : t ≡ true → m ≡ false → WriteAgrees (write_line p v) (original.write_line (twin p j) v) → ⊥
   line_real active unmarked agrees =
       let enabled = (both_true e _ active).0 in
       off_real (loop_transmitter p) (e && not m) (less (theirs_alone e t m ∙ all_three enabled active unmarked)) (sym (ours_line p j v) ∙ ap raises_of agrees ∙ theirs_line p j v)
@@ -84,8 +84,8 @@ module _ (p : Port) (j : ℕ) (v : ℕ) where
   only_ours : alone (loop_transmitter p) false ≡ loop_transmitter p
   only_ours = and-true (loop_transmitter p)
 
-  loop_agrees : (write_loop p v).raises ≡ (original.writeLoop (twin p j) v).raises
-      → WriteAgrees (write_loop p v) (original.writeLoop (twin p j) v)
+  loop_agrees : (write_loop p v).raises ≡ (original.write_loop (twin p j) v).raises
+      → WriteAgrees (write_loop p v) (original.write_loop (twin p j) v)
   unfolding write_loop original.receives
   loop_agrees same = go (has_room p) same
     where
@@ -95,18 +95,18 @@ module _ (p : Port) (j : ℕ) (v : ℕ) where
       go true e = ap (sent [] no_events) e
       go false e = ap (sent [] no_events) e
 
-  loop_complete : in_loop p ≡ true → WriteAgrees (write_loop p v) (original.writeLoop (twin p j) v) ⊎ Row p (twin p j) (writes RBR_THR v)
+  loop_complete : in_loop p ≡ true → WriteAgrees (write_loop p v) (original.write_loop (twin p j) v) ⊎ Row p (twin p j) (writes RBR_THR v)
   loop_complete l = go (both_counted first theirs (loop_transmitter p) false)
     where
       go : (once first + once (loop_transmitter p) ≡ once theirs + once false) ⊎ OffBoth first theirs (loop_transmitter p) false
-          → WriteAgrees (write_loop p v) (original.writeLoop (twin p j) v) ⊎ Row p (twin p j) (writes RBR_THR v)
+          → WriteAgrees (write_loop p v) (original.write_loop (twin p j) v) ⊎ Row p (twin p j) (writes RBR_THR v)
       go (inl same) = inl (loop_agrees (ours_loop p j v ∙ same ∙ sym (theirs_loop p j v)))
       go (inr (more_data x y)) = let z = both_true _ _ (sym comes_quiet ∙ x) in inr (original_loop_data_quiet l z.0 z.1)
       go (inr (less_data x y)) = let z = both_true _ _ (sym comes_again ∙ x) in inr (original_loop_data_again l z.0 z.1 (sym only_ours ∙ y))
       go (inr (more_transmitter x y)) = inr (original_loop_transmitter l (sym only_ours ∙ x) (sym comes_again ∙ y))
       go (inr (less_transmitter x y)) = absurd (false≢true x)
 
-  loop_off : OffBoth first theirs (loop_transmitter p) false → WriteAgrees (write_loop p v) (original.writeLoop (twin p j) v) → ⊥
+  loop_off : OffBoth first theirs (loop_transmitter p) false → WriteAgrees (write_loop p v) (original.write_loop (twin p j) v) → ⊥
   loop_off off agrees =
       off_both_real first theirs (loop_transmitter p) false off (sym (ours_loop p j v) ∙ ap raises_of agrees ∙ theirs_loop p j v)
 
@@ -114,7 +114,7 @@ module _ (p : Port) (j : ℕ) (v : ℕ) where
 
 module _ (p : Port) (j : ℕ) (h : Held p j) (v : ℕ) where
   abbrev ThrAgrees : Type 0
-  ThrAgrees = WriteAgrees (write_thr p v) (original.writeThr (twin p j) v)
+  ThrAgrees = WriteAgrees (write_thr p v) (original.write_thr (twin p j) v)
 
   pub thr_complete : ThrAgrees ⊎ Row p (twin p j) (writes RBR_THR v)
   thr_complete = go (in_loop p) refl
@@ -155,13 +155,13 @@ module _ (p : Port) (j : ℕ) (v : ℕ) where
   mt = marks_transmitter (twin p j)
 
   abbrev IerAgrees : Type 0
-  IerAgrees = WriteAgrees (write_ier p v) (original.writeIer (twin p j) v)
+  IerAgrees = WriteAgrees (write_ier p v) (original.write_ier (twin p j) v)
 
   abbrev IerOff : Type 0
   IerOff = OffBoth (vd && waits p && not ed) (waits p && (vd && not md)) (vt && not at) (vt && not mt)
 
   pub ier_complete : IerAgrees ⊎ Row p (twin p j) (writes IER v)
-  unfolding write_ier original.writeIer
+  unfolding write_ier original.write_ier
   ier_complete = go (both_counted (vd && waits p && not ed) (waits p && (vd && not md)) (vt && not at) (vt && not mt))
     where
       go : (once (vd && waits p && not ed) + once (vt && not at) ≡ once (waits p && (vd && not md)) + once (vt && not mt)) ⊎ IerOff

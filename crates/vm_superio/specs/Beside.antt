@@ -56,7 +56,7 @@ common iir (replied v e n) = replied (cond iir 0 v) (as_original e) 0
 common iir (sent s e n) = sent s (as_original e) 0
 common iir (took t n) = took t 0
 common iir (full n) = full 0
-common iir (runs.hasRoom r) = runs.hasRoom r
+common iir (runs.has_room r) = runs.has_room r
 
 abbrev pub commons : List Op → List Answer → List Answer
 commons [] answers = []
@@ -119,10 +119,10 @@ abbrev pub waits : Port → Bool
 waits p = some p.waiting
 
 abbrev pub marks_data : Original → Bool
-marks_data q = is_marked q.iir original.receivedData
+marks_data q = is_marked q.iir original.received_data
 
 abbrev pub marks_transmitter : Original → Bool
-marks_transmitter q = is_marked q.iir original.transmitterEmpty
+marks_transmitter q = is_marked q.iir original.transmitter_empty
 
 -- IIR of the original answers none of 0xc1, 0xc2, 0xc4 and 0xc6: for a byte, its low six bits are none of 0x01, 0x02, 0x04 and 0x06.
 abbrev pub is_strange : ℕ → Bool
@@ -232,7 +232,7 @@ heard (replied v e n) = replied v (as_original e) n
 heard (sent s e n) = sent s (as_original e) n
 heard (took t n) = took t n
 heard (full n) = full n
-heard (runs.hasRoom r) = runs.hasRoom r
+heard (runs.has_room r) = runs.has_room r
 
 -- It answers the same and leaves the two the same.
 pub record Agrees (p : Port) (q : Original) (o : Op) : Type 0 where

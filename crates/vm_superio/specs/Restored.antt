@@ -26,15 +26,15 @@ raises p = raised_again p.settings.ier p.iir (some p.waiting)
 
 -- To ours: what the original would raise when it restores its own port, ours raises too.
 pub record NoneLost (q : Original) : Type 0 where
-  pub received : is_told q original.receivedData ≡ true → active (ported q) received_data ≡ true
-  pub transmitter : is_told q original.transmitterEmpty ≡ true → active (ported q) transmitter_empty ≡ true
-  pub raises : original.raisedAgain q ≤ raises (ported q)
+  pub received : is_told q original.received_data ≡ true → active (ported q) received_data ≡ true
+  pub transmitter : is_told q original.transmitter_empty ≡ true → active (ported q) transmitter_empty ≡ true
+  pub raises : original.raised_again q ≤ raises (ported q)
 
 -- Back: what is active in ours the original raises when it restores. What is disabled is not marked, and a write of IER raises as in ours.
 pub record NoneLostBack (p : Port) : Type 0 where
-  pub received : active p received_data ≡ true → is_told (restored p) original.receivedData ≡ true
-  pub transmitter : active p transmitter_empty ≡ true → is_told (restored p) original.transmitterEmpty ≡ true
-  pub raises : original.raisedAgain (restored p) ≡ raises p
+  pub received : active p received_data ≡ true → is_told (restored p) original.received_data ≡ true
+  pub transmitter : active p transmitter_empty ≡ true → is_told (restored p) original.transmitter_empty ≡ true
+  pub raises : original.raised_again (restored p) ≡ raises p
   pub received_disabled : enables p received_data ≡ false → marks_data (restored p) ≡ false
   pub transmitter_disabled : enables p transmitter_empty ≡ false → marks_transmitter (restored p) ≡ false
   pub enabling : (v : ℕ) → Row p (restored p) (writes IER v) → ⊥

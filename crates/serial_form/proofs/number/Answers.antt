@@ -1,0 +1,7 @@
+use Rattle.common.specs.Bytes.{value_of}
+use borrow.Author.Rules.{rules}
+use Rattle.serial_form.proofs.number.Goals as goal
+
+pub returns : goal.returns
+unfolding value_of
+returns c = search rules
