@@ -16,8 +16,5 @@ returns-then-n-bytes c = refuses trailing _ _ (left_over_lem _ _ _ (omega (arith
 
 pub returns : goal.returns
 returns c =
-    let first = c in
-    let tested = first.before.before.before.before.before.before in
-    let arrays = tested.before in
-    accepts _ _ _ _ _ (omega (arith, tested.size.ensures)) (omega arith) arrays.before.before.before.before.regs-len.ensures
-    arrays.before.before.regs-len2.ensures arrays.ring-len.ensures first.put.ensures c.put-2.ensures
+    accepts _ _ _ _ _ (omega (arith, c.size.ensures)) (omega arith) c.regs_len.ensures
+    c.regs_len-2.ensures c.ring_len.ensures c.put.ensures c.put-2.ensures

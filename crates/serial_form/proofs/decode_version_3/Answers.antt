@@ -11,8 +11,5 @@ returns-then-form-lt-WAITING c = refuses too_short _ _ (no_count _ version3 c.if
 
 pub returns : goal.returns
 returns c =
-    let counted = c in
-    let registers = counted.before.before.before.before.before in
-    let tested = registers.before.before.before.before in
-    finds_3 tested.before.before.args.form.now _ _ tested.if1.false registers.put.ensures counted.number.ensures
+    finds_3 c.args.form.now _ _ c.if-form-lt-WAITING.false c.put.ensures c.number.ensures
     c.decode_behind.ensures
