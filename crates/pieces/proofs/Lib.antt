@@ -1,3 +1,4 @@
 pub mod Cutting
+mod Finding
 pub mod Lines
 mod Moving

@@ -8,7 +8,7 @@ use native.Mathlib.Omega.{arith}
 use lib.Dec.{eqb}
 use lib.ListN.{length, take, drop, length-take, length-drop}
 use lib.Seq.{take-add, take-take, drop-drop, take-nil}
-use Rattle.bytes.specs.Bytes.{index_of, index_after, slice}
+use Rattle.pieces.specs.Finding.{index_of, index_after, slice}
 use Rattle.pieces.specs.Cutting.{lines_in, rest_of, bytes_from, stop_of}
 
 -- ---- One piece after another
@@ -102,7 +102,7 @@ drop_take (suc a) zero l = let e : 0 - suc a ≡ 0 = omega arith in rw e refl
 drop_take (suc a) (suc b) [] = simp take-nil refl
 drop_take (suc a) (suc b) (x ∷ l) = simp unary_clauses (drop_take a b l)
 
-part : (seen end : ℕ) (all : List ℕ) → slice seen end all ≡ bytes_from seen end all
+pub part : (seen end : ℕ) (all : List ℕ) → slice seen end all ≡ bytes_from seen end all
 unfolding slice
 part seen end all = drop_take seen end all
 

@@ -1,6 +1,6 @@
 -- How lines are cut off what is held, and which of them are to be answered.
 use Rattle.std.specs.Prelude.{ℕ, ◌+◌, ◌-◌, Bool, true, false, cond, List, [], ◌∷◌, ◌++◌, eqb, ltb, leb, length, get_or, take, drop}
-use Rattle.bytes.specs.Bytes.{index_of, slice}
+use Rattle.pieces.specs.Finding.{index_of, slice}
 use Rattle.pieces.specs.declared.cut.Cut.{Cut}
 use Rattle.pieces.specs.declared.cut.Kind.{Kind}
 use Rattle.pieces.specs.declared.cut.Kind.TheVariants.{Silent, TooLong, Whole}

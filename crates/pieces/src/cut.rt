@@ -1,6 +1,7 @@
 // The next line of what is held.
 ghost use Rattle.std.specs.Prelude.{◌+◌, ◌≤◌, ◌<◌, length, ◌≡◌};
 ghost use Rattle.pieces.specs.Cutting.{cut_of, kind_of};
+ghost use Rattle.pieces.specs.Finding.{index_of, slice};
 ghost use Rattle.pieces.specs.Inside.{Cuts};
 
 // A line of more characters is answered `?` and not looked at.
@@ -37,7 +38,7 @@ pub fn next_line(all: &[u8], from: usize, seen: usize, end: usize, passes: bool)
     ensures cuts { Cuts from seen end result }
     ensures value { result ≡ cut_of all.now from seen end passes }
 {
-    let stop = bytes::scan::find(all, seen, end, b'\n');
+    let stop = find(all, seen, end, b'\n');
     if stop < end {
         return Cut {
             kind: kind_of(&all[from..stop], passes),
@@ -62,6 +63,20 @@ pub fn next_line(all: &[u8], from: usize, seen: usize, end: usize, passes: bool)
         from: end,
         seen: end,
         passes: true,
+    }
+}
+
+// The first place from `from` on at which `byte` stands, or `to` where it stands nowhere before that.
+fn find(all: &[u8], from: usize, to: usize, byte: u8) -> usize
+    requires from_le_to { from ≤ to }
+    requires to_in_bounds { to ≤ length all.now }
+    ensures place { result ≡ from + index_of byte (slice from to all.now) }
+    ensures lower_bound { from ≤ result }
+    ensures upper_bound { result ≤ to }
+{
+    match memchr::memchr(byte, &all[from..to]) {
+        Some(i) => from + i,
+        None => to,
     }
 }
 
