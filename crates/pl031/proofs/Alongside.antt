@@ -30,7 +30,7 @@ runs = sidebyside.runs pair Sound AgreesAt alike same keeps complete real
 
 -- A run without a row looks alike from beginning to end.
 pub row_free : (t : Timed) → Sound t → (os : List Op) → RowFree pair t os → SameRun pair t (chip_of t) os
-row_free = sidebyside.row-free pair Sound AgreesAt alike same keeps complete real
+row_free = sidebyside.row_free pair Sound AgreesAt alike same keeps complete real
 
 -- From reset: a clock that is fresh at the host's second n is the chip after reset, started n seconds ago.
 pub from_reset : (n : ℕ) → n < 2 ^ 32 → chip_of (fresh_at n) ≡ started_for n after_reset

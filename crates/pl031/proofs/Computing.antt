@@ -5,5 +5,5 @@ use Rattle.pl031.specs.Chip as chip
 use Rattle.pl031.specs.Compare.{device_does, chip_of}
 
 unfoldable pub computing : Unit {0}
-unfolding fresh register_at shown rule read_of write_of chip.registerAt after_reset ticks read_register write_register chip_does device_does chip_of
+unfolding fresh register_at shown rule read_of write_of chip.register_at after_reset ticks read_register write_register chip_does device_does chip_of
 computing = tt

@@ -42,8 +42,8 @@ id_or_between : (t : Bool) (n : ℕ) → Same (ID n) (cond t (chip.ID n) chip.re
 id_or_between true n = id
 id_or_between false n = between
 
-same_map : (offset : ℕ) → Same (register_at offset) (chip.registerAt offset)
-unfolding register_at chip.registerAt
+same_map : (offset : ℕ) → Same (register_at offset) (chip.register_at offset)
+unfolding register_at chip.register_at
 same_map o =
     pick (eqb o 0x000) dr (pick (eqb o 0x004) mr (pick (eqb o 0x008) lr (pick (eqb o 0x00c) cr
     (pick (eqb o 0x010) imsc (pick (eqb o 0x014) ris (pick (eqb o 0x018) mis_reg (pick (eqb o 0x01c) icr
@@ -88,8 +88,8 @@ agrees d k reply next = record {
 
 -- ---- Reads
 read_fits : (t : Timed) {r : Register} {s : chip.Register} → Same r s
-    → Fits (answer_of (rule r t.clock (now t)).read) (chip.readRegister (chip_of t) s)
-unfolding rule chip.readRegister chip_of
+    → Fits (answer_of (rule r t.clock (now t)).read) (chip.read_register (chip_of t) s)
+unfolding rule chip.read_register chip_of
 read_fits t dr = refl
 read_fits t mr = refl
 read_fits t lr = refl
@@ -104,8 +104,8 @@ read_fits t none_there = tt
 
 -- Where the device refuses a read the manual is silent.
 register_silent : (t : Timed) {r : Register} {s : chip.Register} → Same r s → (rule r t.clock (now t)).read ≡ refused
-    → chip.readRegister (chip_of t) s ≡ silent
-unfolding rule chip.readRegister
+    → chip.read_register (chip_of t) s ≡ silent
+unfolding rule chip.read_register
 register_silent t dr e = cc
 register_silent t mr e = cc
 register_silent t lr e = cc
@@ -129,13 +129,13 @@ cleared true = refl
 cleared false = refl
 
 module _ (t : Timed) (k : Sound t) (v : ℕ) (h : v < 2 ^ 32) where
-  load : Dec (v ≡ t.clock.mr) → (chip_of (written t LR v) ≡ chip.writeLr (chip_of t) v) ⊎ Row t (writes LR v)
+  load : Dec (v ≡ t.clock.mr) → (chip_of (written t LR v) ≡ chip.write_lr (chip_of t) v) ⊎ Row t (writes LR v)
   unfolding chip_of rule
   load (yes e) = inr (clock_load_match e)
   load (no n) = inl (rw (ne_eqb v t.clock.mr n, loaded (now t) v h, k.quiet))
 
   start : Dec (v ≡ 1) → Dec (t.clock.lr ≡ 0) → Dec ((chip_of t).counter ≡ now t)
-      → (chip_of (written t CR v) ≡ chip.writeCr (chip_of t) v) ⊎ Row t (writes CR v)
+      → (chip_of (written t CR v) ≡ chip.write_cr (chip_of t) v) ⊎ Row t (writes CR v)
   unfolding chip_of rule
   start (no n) x y = inl (rw (ne_eqb v 1 n))
   start (yes e) (no x) y = inr (clock_restarts e (λ l c. x l))
@@ -143,8 +143,8 @@ module _ (t : Timed) (k : Sound t) (v : ℕ) (h : v < 2 ^ 32) where
   start (yes e) (yes x) (yes y) = inl (rw (eq-eqb v 1 e, x, y, follows (now t) (omega arith)))
 
   write_next : {r : Register} {s : chip.Register} → Same r s
-      → (chip_of (written t r v) ≡ chip.writeRegister (chip_of t) s v) ⊎ Row t (writes r v)
-  unfolding chip_of rule chip.writeRegister
+      → (chip_of (written t r v) ≡ chip.write_register (chip_of t) s v) ⊎ Row t (writes r v)
+  unfolding chip_of rule chip.write_register
   write_next dr = inl refl
   write_next mr = inl refl
   write_next lr = load (ℕ_discrete v t.clock.mr)
@@ -189,14 +189,24 @@ second_real t k (clock_match_no_effect e) next = status_set t k (rw (eq-eqb _ _ 
 second_real t k (clock_out_of_range n) next = shown_leaps t.time t.clock.ahead n (ap (λ (c : Chip). c.counter) next)
 
 write_real : (t : Timed) → Sound t → (v : ℕ) {r : Register} {s : chip.Register} → Same r s → Row t (writes r v)
-    → chip_of (written t r v) ≡ chip.writeRegister (chip_of t) s v → ⊥
-unfolding chip_of rule chip.writeRegister
+    → chip_of (written t r v) ≡ chip.write_register (chip_of t) s v → ⊥
+unfolding chip_of rule chip.write_register
+write_real t k v dr row next = elim row [ ]
+write_real t k v mr row next = elim row [ ]
 write_real t k v lr (clock_load_match e) next = status_set t k (rw (eq-eqb _ _ e)) (ap (λ (c : Chip). c.ris) next)
 write_real t k v cr (clock_restarts e n) next =
     let same : chip_of (record { clock = with_lr t.clock 0 (pos 0); time = t.time }) ≡ chip_of t = rw e at next in
     n (sym (ap (λ (c : Chip). c.lr) same)) (sym (ap (λ (c : Chip). c.counter) same) ∙ follows (now t) (omega arith))
+write_real t k v imsc row next = elim row [ ]
+write_real t k v ris row next = elim row [ ]
+write_real t k v mis_reg row next = elim row [ ]
+write_real t k v icr row next = elim row [ ]
+write_real t k v id row next = elim row [ ]
+write_real t k v between row next = elim row [ ]
+write_real t k v none_there row next = elim row [ ]
 
 pub real : (t : Timed) → Sound t → (o : Op) → RowAt t o → AgreesAt t o → ⊥
 unfolding device_does chip_does write_of
 real t k second row a = second_real t k row a.next
+real t k (read offset) row a = elim row [ ]
 real t k (write offset v) row a = write_real t k (word v) (same_map offset) row a.next
