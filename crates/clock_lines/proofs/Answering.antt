@@ -95,7 +95,7 @@ module _ (clocks : Clocks) {out out' : List ℕ} {at r : ℕ} where
   state_shown p h =
       record { reached = false; tells = tt; said = p; clock = refl; spare = refl; time = refl; kept = refl; keeps = refl; counted = refl; short = h }
 
-  pub counters_shown : Puts out at (counters_say (counters.clockOf clocks.counters)) out' r → r ≤ at + 4096
+  pub counters_shown : Puts out at (counters_say (counters.clock_of clocks.counters)) out' r → r ≤ at + 4096
       → Answers show_counters clocks out at (record { clocks = clocks; put = r }) out'
   counters_shown p h =
       record { reached = false; tells = tt; said = p; clock = refl; spare = refl; time = refl; kept = refl; keeps = refl; counted = refl; short = h }

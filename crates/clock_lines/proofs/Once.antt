@@ -7,7 +7,7 @@ use borrow.Author.Tests.{eqb-true}
 use lib.Dec.{eqb}
 use lib.ListN.{get_or, drop}
 use Rattle.common.proofs.Booleans.{told_once}
-use Rattle.clock.specs.Layout.{Words, Inits, clock_of, spare_of, spare_is_zero}
+use Rattle.clock.specs.Layout.{Words, Inits, spare_of, spare_is_zero}
 use Rattle.clock.proofs.Words.{same_words}
 use Rattle.counters.specs.Counters as counters
 use Rattle.words.specs.Decimal.{number_of}
@@ -21,7 +21,7 @@ use Rattle.clock_lines.specs.Answers.{Asks, Answers, Tells, asks, asks_clock, as
 pub record SameClock (clocks clocks' : Clocks) : Type 0 where
   pub words : clocks.clock ≡ clocks'.clock
   pub time : clocks.time ≡ clocks'.time
-  pub counted : counters.clockOf clocks.counters ≡ counters.clockOf clocks'.counters
+  pub counted : counters.clock_of clocks.counters ≡ counters.clock_of clocks'.counters
 
 -- The same is kept, or nothing is.
 pub record SameKept (clocks clocks' : Clocks) : Type 0 where
@@ -69,8 +69,8 @@ unfolding spare_is_zero spare_of
 zero_spare words e = let z = both_zero (get_or words 6 0) (get_or words 7 0) e in rw (z.0, z.1) refl
 
 pub fresh_once : {clocks clocks' : Clocks} → Words clocks.clock → Words clocks'.clock → Inits clocks.clock → Inits clocks'.clock
-    → clocks.time ≡ 0 → clocks'.time ≡ 0 → counters.clockOf clocks.counters ≡ counters.freshClock
-    → counters.clockOf clocks'.counters ≡ counters.freshClock → SameClock clocks clocks'
+    → clocks.time ≡ 0 → clocks'.time ≡ 0 → counters.clock_of clocks.counters ≡ counters.fresh_clock
+    → counters.clock_of clocks'.counters ≡ counters.fresh_clock → SameClock clocks clocks'
 fresh_once {clocks} {clocks'} w v i j t u c d = record {
   words =
       same_words clocks.clock clocks'.clock w v (i.clock ∙ sym j.clock)
@@ -90,8 +90,8 @@ module _ {clocks clocks' : Clocks} (s : SameClock clocks clocks') where
   says_once (restore saved) a b t u = ap (λ (x : Bool). restore_says x) (told_once a b t u)
   says_once nothing a b t u = refl
 
-  counted_then_lem : (asked : Asks) → counted_then asked clocks (counters.clockOf clocks.counters)
-      ≡ counted_then asked clocks' (counters.clockOf clocks'.counters)
+  counted_then_lem : (asked : Asks) → counted_then asked clocks (counters.clock_of clocks.counters)
+      ≡ counted_then asked clocks' (counters.clock_of clocks'.counters)
   counted_then_lem (read offset bytes) = rw (s.words, s.time, s.counted) refl
   counted_then_lem (write offset bytes) = rw (s.words, s.time, s.counted) refl
   counted_then_lem (set_time time) = s.counted

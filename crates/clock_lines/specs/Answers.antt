@@ -105,7 +105,7 @@ says (read offset bytes) clocks reached = read_says (read_of (clock_of clocks.cl
 says (write offset bytes) clocks reached = write_says (write_of (clock_of clocks.clock) clocks.time offset (value_of bytes))
 says (set_time t) clocks reached = text "now\n"
 says show_state clocks reached = state_says (text "state") clocks.clock
-says show_counters clocks reached = counters_say (counters.clockOf clocks.counters)
+says show_counters clocks reached = counters_say (counters.clock_of clocks.counters)
 says save clocks reached = state_says (text "save") clocks.clock
 says (restore saved) clocks reached = restore_says reached
 says nothing clocks reached = text "?\n"
@@ -166,9 +166,9 @@ is_save nothing = false
 -- What is counted: the answers to reads and writes.
 abbrev pub counted_then : Asks → Clocks → counters.Clock → counters.Clock
 counted_then (read offset bytes) clocks c =
-    counters.clockAfter c (counters.read (read_answer (read_of (clock_of clocks.clock) clocks.time offset)))
+    counters.clock_after c (counters.read (read_answer (read_of (clock_of clocks.clock) clocks.time offset)))
 counted_then (write offset bytes) clocks c =
-    counters.clockAfter c (counters.write (write_answer (write_of (clock_of clocks.clock) clocks.time offset (value_of bytes))))
+    counters.clock_after c (counters.write (write_answer (write_of (clock_of clocks.clock) clocks.time offset (value_of bytes))))
 counted_then (set_time t) clocks c = c
 counted_then show_state clocks c = c
 counted_then show_counters clocks c = c
@@ -186,5 +186,5 @@ pub record Answers (asked : Asks) (clocks : Clocks) (out : List ℕ) (at : ℕ) 
   pub time : r.clocks.time ≡ time_then asked clocks.time
   pub kept : r.clocks.kept ≡ cond (is_save asked) clocks.clock clocks.kept
   pub keeps : r.clocks.keeps ≡ (is_save asked || clocks.keeps)
-  pub counted : counters.clockOf r.clocks.counters ≡ counted_then asked clocks (counters.clockOf clocks.counters)
+  pub counted : counters.clock_of r.clocks.counters ≡ counted_then asked clocks (counters.clock_of clocks.counters)
   pub short : r.put ≤ at + 4096
