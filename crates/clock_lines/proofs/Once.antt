@@ -7,7 +7,7 @@ use borrow.Author.Tests.{eqb-true}
 use lib.Dec.{eqb}
 use lib.ListN.{get_or, drop}
 use Rattle.common.proofs.Booleans.{told_once}
-use Rattle.clock.specs.Layout.{Words, Inits, clock_of, spare_of, spare_is_zero}
+use Rattle.clock.specs.Layout.{Words, Inits, spare_of, spare_is_zero}
 use Rattle.clock.proofs.Words.{same_words}
 use Rattle.counters.specs.Counters as counters
 use Rattle.words.specs.Decimal.{number_of}

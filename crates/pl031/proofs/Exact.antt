@@ -191,12 +191,22 @@ second_real t k (clock_out_of_range n) next = shown_leaps t.time t.clock.ahead n
 write_real : (t : Timed) → Sound t → (v : ℕ) {r : Register} {s : chip.Register} → Same r s → Row t (writes r v)
     → chip_of (written t r v) ≡ chip.write_register (chip_of t) s v → ⊥
 unfolding chip_of rule chip.write_register
+write_real t k v dr row next = elim row [ ]
+write_real t k v mr row next = elim row [ ]
 write_real t k v lr (clock_load_match e) next = status_set t k (rw (eq-eqb _ _ e)) (ap (λ (c : Chip). c.ris) next)
 write_real t k v cr (clock_restarts e n) next =
     let same : chip_of (record { clock = with_lr t.clock 0 (pos 0); time = t.time }) ≡ chip_of t = rw e at next in
     n (sym (ap (λ (c : Chip). c.lr) same)) (sym (ap (λ (c : Chip). c.counter) same) ∙ follows (now t) (omega arith))
+write_real t k v imsc row next = elim row [ ]
+write_real t k v ris row next = elim row [ ]
+write_real t k v mis_reg row next = elim row [ ]
+write_real t k v icr row next = elim row [ ]
+write_real t k v id row next = elim row [ ]
+write_real t k v between row next = elim row [ ]
+write_real t k v none_there row next = elim row [ ]
 
 pub real : (t : Timed) → Sound t → (o : Op) → RowAt t o → AgreesAt t o → ⊥
 unfolding device_does chip_does write_of
 real t k second row a = second_real t k row a.next
+real t k (read offset) row a = elim row [ ]
 real t k (write offset v) row a = write_real t k (word v) (same_map offset) row a.next

@@ -33,8 +33,10 @@ module _ (x : Pair) (Sound : x.Device → Type 0) (Agrees : x.Device → x.Op �
 
   -- A run without a row looks alike from beginning to end.
   no_row_met : {d : x.Device} {c : x.Chip} (os : List x.Op) → RowFree x d os → Meets x d c os → ⊥
+  no_row_met [] free meets = elim meets [ ]
   no_row_met (o ∷ os) free (now row) = free.0 row
-  no_row_met (o ∷ os) free (later first alike meets) = no_row_met os free.1 meets
+  no_row_met {d = d} {c = c} (o ∷ os) free (later first alike meets) =
+      no_row_met {d = x.device_next d o} {c = x.chip_next c o} os free.1 meets
 
   pub row_free : (d : x.Device) → Sound d → (os : List x.Op) → RowFree x d os → SameRun x d (x.chip_of d) os
   row_free d k os free = elim (runs d k os) [ inl run ↦ run | inr meets ↦ absurd (no_row_met os free meets) ]

@@ -1,6 +1,5 @@
 -- `adjust` meets its contract. Three stores are the load register and how far the clock is ahead.
 use Rattle.clock.proofs.Stores.{stores_lr}
-use Rattle.std.proofs.Common.{rules}
 use Rattle.clock.proofs.adjust.Goals as goal
 
 pub returns : goal.returns

@@ -1,5 +1,5 @@
 -- `answer` meets its contract. Four stores are the bytes of the value.
-use Rattle.std.proofs.Common.{refl, rules}
+use Rattle.std.proofs.Common.{refl}
 use Rattle.clock.proofs.Bytes.{stored}
 use Rattle.clock.proofs.answer.Goals as goal
 

@@ -1,6 +1,5 @@
 -- `init` meets its contract. Eight stores of 0 are the fresh clock and its spare words.
 use Rattle.clock.proofs.Stores.{cleared}
-use Rattle.std.proofs.Common.{rules}
 use Rattle.clock.proofs.init.Goals as goal
 
 pub returns : goal.returns

@@ -1,5 +1,5 @@
 -- `number` meets its contract. The sum of the weighted bytes is the number that they are.
-use Rattle.std.proofs.Common.{arith, rules}
+use Rattle.std.proofs.Common.{arith}
 use Rattle.common.specs.Bytes.{value_of}
 use Rattle.clock.proofs.number.Goals as goal
 

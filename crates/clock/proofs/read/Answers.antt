@@ -2,7 +2,7 @@
 use Rattle.clock.specs.Layout.{clock_of}
 use Rattle.clock.proofs.Registers.{reads_dr, reads_mr, reads_lr, reads_cr, reads_imsc, reads_ris, reads_mis, reads_id, reads_nothing}
 use Rattle.clock.proofs.Steps.{says_so, says_equal, says_nothing}
-use Rattle.std.proofs.Common.{arith, rules}
+use Rattle.std.proofs.Common.{arith}
 use Rattle.clock.proofs.read.Goals as goal
 
 pub returns-then-offset-eq-RTCDR : goal.returns-then-offset-eq-RTCDR
@@ -43,13 +43,13 @@ returns-in-4064-to-4095 c =
 pub returns-in_default : goal.returns-in_default
 returns-in_default c =
     let a = c.args in
-    let m = c.in_default-1.rest in
     says_nothing
-    (reads_nothing (clock_of a.clock.now) a.time a.offset c.if-offset-eq-RTCDR.false m.0.0.0.0.0.1 m.0.0.0.0.1 m.0.0.0.1 m.0.0.1 m.0.1 m.1 (λ l h. omega arith))
+    (reads_nothing (clock_of a.clock.now) a.time a.offset c.if-offset-eq-RTCDR.false (λ e. omega arith) (λ e. omega arith)
+    (λ e. omega arith) (λ e. omega arith) (λ e. omega arith) (λ e. omega arith) (λ l h. omega arith))
 
 pub returns-in_default-2 : goal.returns-in_default-2
 returns-in_default-2 c =
     let a = c.args in
-    let m = c.in_default-1.rest in
     says_nothing
-    (reads_nothing (clock_of a.clock.now) a.time a.offset c.if-offset-eq-RTCDR.false m.0.0.0.0.0.1 m.0.0.0.0.1 m.0.0.0.1 m.0.0.1 m.0.1 m.1 (λ l h. omega arith))
+    (reads_nothing (clock_of a.clock.now) a.time a.offset c.if-offset-eq-RTCDR.false (λ e. omega arith) (λ e. omega arith)
+    (λ e. omega arith) (λ e. omega arith) (λ e. omega arith) (λ e. omega arith) (λ l h. omega arith))

@@ -1,6 +1,5 @@
 -- `spare_is_zero` meets its contract: one word is tested, and then the other.
 use Rattle.clock.proofs.Spare.{first_used, by_last}
-use Rattle.std.proofs.Common.{rules}
 use Rattle.clock.proofs.spare_is_zero.Goals as goal
 
 pub returns-then-clock-ne0 : goal.returns-then-clock-ne0

@@ -3,7 +3,7 @@ use Rattle.clock.specs.Layout.{clock_of}
 use Rattle.clock.proofs.Registers.{writes_mr, writes_imsc, writes_icr, writes_nothing}
 use Rattle.clock.proofs.Stores.{stores_mr, stores_imsc, stores_ris}
 use Rattle.clock.proofs.Steps.{changes, changes_nothing, sets, restarts, runs_on}
-use Rattle.std.proofs.Common.{rules}
+use Rattle.std.proofs.Common.{arith}
 use Rattle.clock.proofs.write.Goals as goal
 
 pub returns-in-4 : goal.returns-in-4
@@ -50,4 +50,7 @@ pub returns-in_default : goal.returns-in_default
 returns-in_default c =
     let a = c.args in
     let v = c.value_of-value in
-    rw (← v.ensures) (changes_nothing (writes_nothing (clock_of a.clock.now) a.time a.offset v.result c.in_default.in_default-own.rest.0.0.0.0.1 c.in_default.in_default-own.rest.0.0.0.1 c.in_default.in_default-own.rest.0.0.1 c.in_default.in_default-own.rest.0.1 c.in_default.in_default-own.rest.1))
+    rw (← v.ensures)
+    (changes_nothing
+    (writes_nothing (clock_of a.clock.now) a.time a.offset v.result (λ e. omega arith) (λ e. omega arith) (λ e. omega arith)
+    (λ e. omega arith) (λ e. omega arith)))

@@ -1,6 +1,5 @@
 -- The stores are a law of `Stores`.
 use Rattle.counters.proofs.Stores.{clock_cleared}
-use borrow.Author.Rules.{rules}
 use Rattle.counters.proofs.clock_init.Goals as goal
 
 pub returns : goal.returns
