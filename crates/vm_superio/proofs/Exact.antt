@@ -62,6 +62,16 @@ module _ (p : Port) (j : ℕ) where
   read_real : (r : Register) → Row p (twin p j) (reads r) → ReadAgrees (read_register p r) (original.read_register (twin p j) r) → ⊥
   unfolding read_register original.read_register
   read_real IIR_FCR row a = iir_real p j row (ap reply_of a)
+  read_real RBR_THR row a = elim row [ ]
+  read_real IER row a = elim row [ ]
+  read_real LCR row a = elim row [ ]
+  read_real MCR row a = elim row [ ]
+  read_real LSR row a = elim row [ ]
+  read_real MSR row a = elim row [ ]
+  read_real SCR row a = elim row [ ]
+  read_real DLL row a = elim row [ ]
+  read_real DLM row a = elim row [ ]
+  read_real reserved row a = elim row [ ]
 
 -- ---- Writes
 
@@ -111,6 +121,14 @@ module _ (p : Port) (j : ℕ) (h : Held p j) where
   write_real RBR_THR v row a = thr_real p j h v row a.0
   write_real IER v row a = ier_real p j v row a.0
   write_real IIR_FCR v (original_keeps_fifo a b) g = fcr_real v a b g.1
+  write_real LCR v row a = elim row [ ]
+  write_real MCR v row a = elim row [ ]
+  write_real LSR v row a = elim row [ ]
+  write_real MSR v row a = elim row [ ]
+  write_real SCR v row a = elim row [ ]
+  write_real DLL v row a = elim row [ ]
+  write_real DLM v row a = elim row [ ]
+  write_real reserved v row a = elim row [ ]
 
 -- ---- Bytes from the line
 
