@@ -42,6 +42,13 @@ write_real p RBR_THR v row = thr_real p v row
 write_real p IER v row = ier_real p v row
 write_real p IIR_FCR v row = fcr_real p v row
 write_real p MCR v row = mcr_real p v row
+write_real p LCR v row = elim row [ ]
+write_real p LSR v row = elim row [ ]
+write_real p MSR v row = elim row [ ]
+write_real p SCR v row = elim row [ ]
+write_real p DLL v row = elim row [ ]
+write_real p DLM v row = elim row [ ]
+write_real p reserved v row = elim row [ ]
 
 -- Real: a call in a row does not agree.
 pub real : (p : Port) (o : Op) → RowAt p o → AgreesAt p o → ⊥
