@@ -17,9 +17,7 @@ use serial::waiting::{count, size};
 fn copy(from: &Regs, to: &mut Regs)
     ensures { to.new ≡ from.now }
 {
-    memory::regs_len(from);
-    memory::regs_len(to);
-    bytes::copy(from, to);
+    *to = *from;
 }
 
 // The port as it stands: its registers, and the bytes that wait. The answer: how many bytes wait.

@@ -1,0 +1,10 @@
+-- The answer is a law of `Bringing`.
+use Rattle.serial_saved.proofs.Bringing.{saves}
+use borrow.Author.Rules.{rules}
+use Rattle.serial_saved.proofs.save.Goals as goal
+
+pub returns : goal.returns
+returns c =
+    let a = c.args in
+    saves a.regs.now a.pos.now a.ring.now a.waiting.now _ _ _
+    c.count-n.ensures c.copy.ensures c.unroll.ensures
