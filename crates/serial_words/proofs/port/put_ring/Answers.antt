@@ -1,0 +1,17 @@
+-- Byte by byte.
+use Rattle.serial_words.proofs.Saying.{none_yet, one_more, all_there}
+use Rattle.words.specs.Put.{Puts}
+use Rattle.ring.specs.Ring.{queue}
+use Rattle.serial.specs.Layout.{places}
+use Rattle.serial_words.specs.Said.{bytes_say}
+use Prim.Native.Nat.{◌+◌, ◌-◌, ◌≤◌}
+use mathlib.Core.Path.{◌≡◌}
+use borrow.Author.Rules.{rules}
+use native.Mathlib.Omega.{arith}
+use Rattle.serial_words.proofs.port.put_ring.Goals as goal
+
+pub loop-i-init : goal.loop-i-init
+loop-i-init c = (omega arith, omega arith, none_yet _ _ _ _)
+
+pub loop-i-preserved : goal.loop-i-preserved
+loop-i-preserved c = (omega arith, omega arith, one_more _ _ _ c.loop-i.invariant.2 c.put_byte-next.ensures.0)
