@@ -14,4 +14,4 @@ pub loop-i-init : goal.loop-i-init
 loop-i-init c = (omega arith, omega arith, none_yet _ _ _ _)
 
 pub loop-i-preserved : goal.loop-i-preserved
-loop-i-preserved c = (omega arith, omega arith, one_more _ _ _ c.loop-i.invariant.2 c.put_byte-next.ensures.0)
+loop-i-preserved c = (omega arith, omega arith, one_more _ _ _ c.loop-i.invariant.2 c.put_byte-next.ensures.puts)
