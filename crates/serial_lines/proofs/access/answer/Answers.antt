@@ -1,0 +1,11 @@
+-- By the access; each answer is a law of `Answering`.
+use Rattle.serial_lines.proofs.Answering.{by_access, by_word, input_makes_none, restore_makes_none, written, read_from, entered, room_said, state_said, line_said, registers_brought, unknown}
+use mathlib.Core.Path.{refl}
+use borrow.Author.Rules.{rules}
+use Rattle.serial_lines.proofs.access.answer.Goals as goal
+
+pub returns-in-InputBytes-clause-answers_port : goal.returns-in-InputBytes-clause-answers_port
+returns-in-InputBytes-clause-answers_port c = λ saved waiting count. by_access _ c.in-InputBytes.is (c.input_of.ensures _ _ _)
+
+pub returns-in-RestoreBytes-clause-answers_port : goal.returns-in-RestoreBytes-clause-answers_port
+returns-in-RestoreBytes-clause-answers_port c = λ saved waiting count. by_access _ c.in-RestoreBytes.is (c.restore_given.ensures _ _ _)
