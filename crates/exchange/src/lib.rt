@@ -1,49 +1,43 @@
-// A turn of the program with its caller: what is answered is written to standard output, and more is
-// read from standard input. Where either fails, standard error says why.
+// A turn of the program with its caller: what is answered is written out, and more is read. Where
+// either fails, standard error says why.
 #![tactic(auto)]
 
 ghost use Rattle.std.specs.Prelude.{◌+◌, ◌≤◌, ◌≡◌, true, length};
 ghost use Rattle.exchange.specs.Came.{count_of, ReadsAfter, Filled, Exchanged};
 ghost use Rattle.pieces.specs.Pieces.{Sound, Answered};
 
-use libc::{STDERR_FILENO, STDIN_FILENO, STDOUT_FILENO};
 use pieces::State;
+use std::io::{Eprint, Error, ErrorKind, Read, Write};
 use words::Block;
 
 // A proved loop has to end. How often a signal interrupts a call, and how long the input is, nothing
 // says: no run uses these turns up.
 pub const ENDLESS: u64 = u64::MAX;
 
-// Whether the call that failed just now was only interrupted, so that it is to be tried again.
-fn is_interrupted() -> bool {
-    os::errno() == libc::EINTR
+// Says in one line on standard error what failed. Where that fails too, nobody is left to be told.
+fn say<E: Eprint>(errors: &E, what: &str, error: Error) {
+    let _ = eprintln!(errors; "replay: {what}: {error}");
 }
 
-// Writes `waiting` to standard output, and answers whether all of it is written. Where not, standard
-// error says why.
-fn write(waiting: &[u8]) -> bool {
-    let count = waiting.len();
-    let mut done = 0;
-    let mut turns = ENDLESS;
-    while turns > 0 {
-        if done == count {
-            return true;
-        }
-        let got = libc::write(STDOUT_FILENO, &waiting[done..count]);
-        if got == 0 {
-            io::write_all(STDERR_FILENO, b"replay: standard output takes no more\n");
-            return false;
-        }
-        if got < 0 {
-            if !is_interrupted() {
-                os::fail(b"replay: cannot write the answers");
-                return false;
+// Writes `waiting`, and answers whether all of it is written. Where not, standard error says why.
+fn write<O: Write, E: Eprint>(output: &mut O, errors: &E, waiting: &[u8]) -> bool {
+    match write_out(output, waiting) {
+        Ok(()) => true,
+        Err(error) => {
+            if error.kind() == ErrorKind::WriteZero {
+                let _ = eprintln!(errors; "replay: standard output takes no more");
+            } else {
+                say(errors, "cannot write the answers", error);
             }
+            false
         }
-        done += io::count(got, &waiting[done..count]);
-        turns -= 1;
     }
-    false
+}
+
+// Also where the writer holds bytes back: whoever waits for an answer is to see it.
+fn write_out<O: Write>(output: &mut O, waiting: &[u8]) -> Result<(), Error> {
+    output.write_all(waiting)?;
+    output.flush()
 }
 
 // What a read brought.
@@ -54,22 +48,23 @@ enum Came {
     Failed,
 }
 
-// Reads once from standard input into `space`. Where the read fails, standard error says why.
-fn read(space: &mut [u8]) -> Came
+// Reads once into `space`; a call that was only interrupted is tried again. Where the read fails,
+// standard error says why.
+#[tactic(auto, unfolding(crate::specs::Came::count_of))]
+fn read<I: Read, E: Eprint>(input: &mut I, errors: &E, space: &mut [u8]) -> Came
     ensures { count_of result ≤ length space.old }
 {
     let mut turns = ENDLESS;
     while turns > 0 {
-        let got = libc::read(STDIN_FILENO, space);
-        if got == 0 {
-            return Came::End;
-        }
-        if got > 0 {
-            return Came::Bytes(io::count(got, space));
-        }
-        if !is_interrupted() {
-            os::fail(b"replay: cannot read the list");
-            return Came::Failed;
+        match input.read(space) {
+            Ok(0) => return Came::End,
+            Ok(count) => return Came::Bytes(count),
+            Err(error) => {
+                if error.kind() != ErrorKind::Interrupted {
+                    say(errors, "cannot read the list", error);
+                    return Came::Failed;
+                }
+            }
         }
         turns -= 1;
     }
@@ -77,12 +72,12 @@ fn read(space: &mut [u8]) -> Came
 }
 
 // Reads once behind the first `end` bytes of `held`.
-fn read_after(held: &mut [u8], end: usize) -> Came
+fn read_after<I: Read, E: Eprint>(input: &mut I, errors: &E, held: &mut [u8], end: usize) -> Came
     requires { end ≤ length held.old }
     ensures result_in_bounds { end + count_of result ≤ length held.old }
     ensures reads_after { ReadsAfter held.old end held.new }
 {
-    read(&mut held[end..])
+    read(input, errors, &mut held[end..])
 }
 
 // A state, and whether there is more to do.
@@ -93,14 +88,14 @@ pub struct Next {
 }
 
 // Reads on behind what is held.
-fn fill(held: &mut Block, before: State) -> Next
+fn fill<I: Read, E: Eprint>(input: &mut I, errors: &E, held: &mut Block, before: State) -> Next
     requires sound { Sound before }
     requires seen_value { before.seen ≡ before.end }
     ensures sound_2 { Sound result.state }
     ensures filled { result.more ≡ true → Filled held.old before held.new result.state }
 {
     let state = pieces::settle(held, before);
-    match read_after(held, state.end) {
+    match read_after(input, errors, held, state.end) {
         Came::Bytes(count) => Next {
             state: pieces::came(state, count),
             more: true,
@@ -115,7 +110,14 @@ fn fill(held: &mut Block, before: State) -> Next
 
 // Writes the answers that wait, so that whoever types a line sees its answer before a read waits for
 // the next. Then reads, unless lines are held that had no room for their answers.
-pub fn exchange(held: &mut Block, out: &Block, before: State) -> Next
+pub fn exchange<I: Read, O: Write, E: Eprint>(
+    input: &mut I,
+    output: &mut O,
+    errors: &E,
+    held: &mut Block,
+    out: &Block,
+    before: State,
+) -> Next
     requires sound { Sound before }
     requires answered { Answered before }
     ensures sound_2 { Sound result.state }
@@ -124,7 +126,7 @@ pub fn exchange(held: &mut Block, out: &Block, before: State) -> Next
     let mut state = before;
     let all: &[u8] = out;
     let count = state.put;
-    if !write(&all[0..count]) {
+    if !write(output, errors, &all[0..count]) {
         return Next { state, more: false };
     }
     state.put = 0;
@@ -134,5 +136,5 @@ pub fn exchange(held: &mut Block, out: &Block, before: State) -> Next
     if state.ended {
         return Next { state, more: false };
     }
-    fill(held, state)
+    fill(input, errors, held, state)
 }

@@ -15,7 +15,7 @@ use words::put::put;
 // `seen`, and `end` bytes are held; `ended` says that no more will come. `passes` says that the
 // current line was too long: its answer is given, and what is left of it is passed over. `put`
 // bytes of answers wait to be written; `full` says that lines wait for that.
-#[derive(Drop)]
+#[derive(Clone, Copy)]
 pub struct State {
     pub from: usize,
     pub seen: usize,

@@ -8,18 +8,25 @@ ghost use Rattle.lines.specs.Runs.{Left};
 
 use exchange::{ENDLESS, exchange};
 use lines::Turn;
+use std::io::{Eprint, Read, Write};
 use words::Block;
 
 // Some run, of some input, comes to the turn that it answers. How far it gets is not promised: one
 // that stops at once would promise the same.
-fn run(held: &mut Block, out: &mut Block) -> Turn
+fn run<I: Read, O: Write, E: Eprint>(
+    input: &mut I,
+    output: &mut O,
+    errors: &E,
+    held: &mut Block,
+    out: &mut Block,
+) -> Turn
     ensures { Left out.new result }
 {
     let mut turn = lines::start();
     let mut turns = ENDLESS;
     while turns > 0 {
         let state = turn.state;
-        let next = exchange(held, out, state);
+        let next = exchange(input, output, errors, held, out, state);
         if !next.more {
             return turn;
         }
@@ -31,8 +38,10 @@ fn run(held: &mut Block, out: &mut Block) -> Turn
     turn
 }
 
-fn main() {
-    let mut held = io::large_buffer();
-    let mut out = io::large_buffer();
-    run(&mut held, &mut out);
+fn main(rt: HostRuntime) {
+    let mut input = rt.stdin();
+    let mut output = rt.stdout();
+    let mut held: Block = [0; 65536];
+    let mut out: Block = [0; 65536];
+    run(&mut input, &mut output, &rt, &mut held, &mut out);
 }
