@@ -14,7 +14,6 @@ use Rattle.pieces.specs.declared.cut.Cut.{Cut}
 use Rattle.pieces.proofs.Lines.{joined, lines_append, rest_append}
 use Rattle.words.specs.Put.{Puts}
 use Rattle.words.proofs.Putting.{both}
-use types.Run.{OneOf}
 use denote.Enum.Declared.{tag_of}
 use Rattle.clock.specs.Layout.{Words}
 use Rattle.clock_lines.specs.declared.Said as clock-said
@@ -107,12 +106,6 @@ turn_goes_on {held} {s} {s'} {w} {w'} {w''} {out} {out'} {out''} {said} {end} {p
 
 -- ---- By whose line it is
 
-not_clocks : {a : Whose} → OneOf (0 ∷ 1 ∷ 2 ∷ []) (tag_of the_type a) → a ≡ whose.Clocks → ⊥
-not_clocks o h = ⊎_elim (λ e. omega arith) (λ f. ⊎_elim (λ e. omega arith) (λ e. omega arith) f) (rw h at o)
-
-not_ports : {a : Whose} → OneOf (0 ∷ 1 ∷ 2 ∷ []) (tag_of the_type a) → a ≡ whose.Ports → ⊥
-not_ports o h = ⊎_elim (λ e. omega arith) (λ f. ⊎_elim (λ e. omega arith) (λ e. omega arith) f) (rw h at o)
-
 -- The line that was cut off.
 abbrev line_in : List ℕ → State → Cut → List ℕ
 line_in held s r = bytes_from s.from r.stop held
@@ -150,10 +143,10 @@ module _ {held : List ℕ} {s s' : State} {w : Devices} {device : Device} {clock
     by false e = let p = (a e).said in
         done (port h (record { out = out'; at = s'.put; answer = answer; out' = out''; puts = p; after = refl; begins = b; answers = a })) p
 
-  pub turn_plain : {out'' : List ℕ} {put : ℕ} → OneOf (0 ∷ 1 ∷ 2 ∷ []) (tag_of the_type task.whose)
+  pub turn_plain : {out'' : List ℕ} {put : ℕ} → (task.whose ≡ whose.Clocks → ⊥) → (task.whose ≡ whose.Ports → ⊥)
       → Puts out' s'.put (plain_says (line_in held s' r) task.whose task.fresh) out'' put
       → Turns held s w out out'' (after s' r put) (devices task.device clocks ports)
-  turn_plain o p = done (plain (not_clocks o) (not_ports o)) p
+  turn_plain not_clocks not_ports p = done (plain not_clocks not_ports) p
 
 -- The turn is over: what is left is told by one bit.
 abbrev pub told : State → Bool → State

@@ -16,7 +16,7 @@ use words::Block;
 use words::pattern::fits;
 use words::put::{put, unknown};
 
-#[derive(Drop)]
+#[derive(Clone, Copy)]
 pub enum Device {
     Nothing,
     Reset,
