@@ -15,23 +15,13 @@ pub fn serialpost5_clock_init(clock: &mut Clock)
     clock::init(clock);
 }
 
-pub fn serialpost5_clock_read(
-    clock: &Clock,
-    offset: u16,
-    time: u64,
-    bytes: &mut [u8; 4],
-) -> u32
+pub fn serialpost5_clock_read(clock: &Clock, offset: u16, time: u64, bytes: &mut [u8; 4]) -> u32
     ensures { Reads (read_of (clock_of clock.now) time offset) bytes.old bytes.new result }
 {
     clock::read(clock, offset, time, bytes)
 }
 
-pub fn serialpost5_clock_write(
-    clock: &mut Clock,
-    offset: u16,
-    time: u64,
-    bytes: &[u8; 4],
-) -> u32
+pub fn serialpost5_clock_write(clock: &mut Clock, offset: u16, time: u64, bytes: &[u8; 4]) -> u32
     ensures { Writes (write_of (clock_of clock.old) time offset (value_of bytes.now)) clock.old
         clock.new result }
 {

@@ -14,12 +14,7 @@ pub fn serialpost5_serial_init(regs: &mut Regs, pos: &mut Pos, size: u32) -> u32
     serial::init(regs, pos, size)
 }
 
-pub fn serialpost5_serial_read(
-    regs: &mut Regs,
-    pos: &mut Pos,
-    ring: &Ring,
-    offset: u8,
-) -> u32
+pub fn serialpost5_serial_read(regs: &mut Regs, pos: &mut Pos, ring: &Ring, offset: u8) -> u32
     ensures { Reads (λ p. read_of p offset)
         regs.old pos.old ring.now regs.new pos.new result }
 {
@@ -116,11 +111,7 @@ pub fn serialpost5_serial_encode(saved: &Regs, waiting: &[u8], form: &mut [u8]) 
     serial_form::encode(saved, waiting, form)
 }
 
-pub fn serialpost5_serial_decode(
-    form: &[u8],
-    saved: &mut Regs,
-    waiting: &mut Ring,
-) -> u32
+pub fn serialpost5_serial_decode(form: &[u8], saved: &mut Regs, waiting: &mut Ring) -> u32
     ensures { Decodes (read_form form.now)
         saved.old waiting.old saved.new waiting.new result }
 {
