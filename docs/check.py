@@ -3,7 +3,7 @@
 
 - every row of docs/DIFFERENCES.md (a heading `### name`) has a list of that name in lists/differences or lists/original, or says
   that no list shows it, and every such list has a row;
-- every row that a definition names or that is a constructor of `Row` is there;
+- every row that a definition names or that is a constructor of `Row` (with _ for -) is there;
 - every theorem of docs/THEOREMS.md, written `name` ([file](path)), is declared in that file;
 - every link to a file leads to one.
 
@@ -53,7 +53,8 @@ def constructors_have_rows():
     known = rows()
     proved = set()
     for path in tree("crates/*/specs/Compare.antt") + tree("crates/*/specs/Beside.antt"):
-        for name in re.findall(r"^  ((?:clock|serial|original)-[a-z0-9-]+) :", read(path), re.M):
+        for constructor in re.findall(r"^  ((?:clock|serial|original)_[a-z0-9_]+) :", read(path), re.M):
+            name = constructor.replace("_", "-")
             proved.add(name)
             if name not in known:
                 yield f"{path} has the row {name}, which docs/DIFFERENCES.md does not have"
@@ -63,7 +64,7 @@ def constructors_have_rows():
 
 
 # What may stand before the name in a declaration.
-DECLARING = r"(?:pub |abbrev pub |unfoldable pub |pub record |pub data |pub extern \"C\" fn )*"
+DECLARING = r"(?:pub |abbrev pub |unfoldable pub |pub record |pub data |pub fn )*"
 
 
 # Names in a row, and the file that declares them: `a`, `b` and `c` ([File](path)), or (`a`, [File](path)).

@@ -35,7 +35,7 @@ STARTED = ["lists/guests/linux-clock-alarm.list", "lists/guests/linux-clock-star
 ASKED = re.compile(r"room|state|save|counters|lost")
 UNANSWERED = re.compile(ASKED.pattern + r"|w .{4} .{8}")
 HEAD = "-- Written by lists/manual.py from the lists: change these.\n"
-KEPT = {"00": "line .dll", "01": "line .dlm", "07": "scr"}
+KEPT = {"00": "line.dll", "01": "line.dlm", "07": "scr"}
 
 
 def numbers(digits):
@@ -55,7 +55,7 @@ SERIAL = {
     r"serial(?: \d+)? => serial(?: \d+)?": lambda: "serial",
     r"r (..) => r (..) (\d)": lambda at, v, n: f"r 0x{at} 0x{v} {n}",
     r"r (..) => not said": lambda at: f"r? 0x{at}",
-    r"r (00|01|07) => as before": lambda at: f"kept (read 0x{at}) (λ c. c .{KEPT[at]})",
+    r"r (00|01|07) => as before": lambda at: f"kept (read 0x{at}) (λ c. c.{KEPT[at]})",
     r"w (..) (..) => w -(?:-|\d+) (\d)": lambda at, v, n: f"w 0x{at} 0x{v} {n}",
     r"w (..) (..) => w ([0-9a-f]{2}) (\d)": lambda at, v, sent, n: f"sends 0x{at} 0x{v} 0x{sent} {n}",
     r"b ?((?:..)*) => b (\d+) (\d)": lambda bytes_, t, n: f"b {numbers(bytes_)} {t} {n}",
@@ -79,9 +79,9 @@ DEVICES = {
     "serial": (
         SERIAL,
         "Serial",
-        "use Rattle·pc16550d.specs.Chip.{read}\n"
-        "use Rattle·manual_lists·specs.specs.Serial.{Line, serial, kept, level, r, r?, w, sends, b}\n",
-        "use Rattle·pc16550d.specs.Chip.{Chip}\nuse Rattle·pc16550d.proofs.Computing.{computing}\n",
+        "use Rattle.pc16550d.specs.Chip.{read}\n"
+        "use Rattle.manual_lists.specs.Serial.{Line, serial, kept, level, r, r?, w, sends, b}\n",
+        "use Rattle.pc16550d.specs.Chip.{Chip}\nuse Rattle.pc16550d.proofs.Computing.{computing}\n",
         "(c : Chip) → ",
         "c ",
         "computing",
@@ -89,8 +89,8 @@ DEVICES = {
     "clock": (
         CLOCK,
         "Clock",
-        "use Rattle·manual_lists·specs.specs.Clock.{Line, clock, now, r, r?, w}\n",
-        "use Prim.Native.Nat.{ℕ}\nuse Rattle·pl031.specs.Chip.{Chip}\nuse Rattle·pl031.proofs.Computing.{computing}\n",
+        "use Rattle.manual_lists.specs.Clock.{Line, clock, now, r, r?, w}\n",
+        "use Prim.Native.Nat.{ℕ}\nuse Rattle.pl031.specs.Chip.{Chip}\nuse Rattle.pl031.proofs.Computing.{computing}\n",
         "(c : Chip) (t : ℕ) → ",
         "c t ",
         "computing",
@@ -98,11 +98,11 @@ DEVICES = {
     "i8042": (
         RESETS,
         "Resets",
-        "use mathlib.Core.Bool.{true, false}\nuse Rattle·manual_lists·specs.specs.Resets.{Line, w}\n",
-        "use Rattle·i8042.specs.I8042.{manualResets}\n",
+        "use Rattle.manual_lists.specs.Resets.{Line, w}\n",
+        "use Rattle.i8042.specs.I8042.{manual_resets}\n",
         "",
         "",
-        "manualResets",
+        "manual_resets",
     ),
 }
 
@@ -161,15 +161,16 @@ def files():
     for name, rows in told_lists():
         if not unproved(rows):
             device, lines = lines_of(name, rows)
-            short = os.path.basename(name)[: -len(".list")]
+            short = os.path.basename(name)[: -len(".list")].replace("-", "_")
             if short in lists[device]:
                 raise Trouble(f"{name}: another list has this name")
             lists[device][short] = (name, lines)
     for device, (_, module, defining, proving, premises, arguments, unfolded) in DEVICES.items():
-        told = HEAD + "use mathlib.Core.List.{List, [], _∷_}\n" + defining
+        constants = ", true, false" if device == "i8042" else ""
+        told = HEAD + f"use Rattle.std.specs.Prelude.{{List, [], ◌∷◌{constants}}}\n" + defining
         proved = HEAD + "use mathlib.Core.Path.{refl}\n" + proving
-        proved += f"use Rattle·manual_lists·specs.specs.{module}.{{AsTold}}\n"
-        proved += f"use Rattle·manual_lists·specs.specs.{module}Lists as lists\n"
+        proved += f"use Rattle.manual_lists.specs.{module}.{{AsTold}}\n"
+        proved += f"use Rattle.manual_lists.specs.{module}Lists as lists\n"
         for name, (path, lines) in lists[device].items():
             told += f"\n-- {path}\nabbrev pub {name} : List Line\n{name} =\n    " + "\n    ∷ ".join(lines) + "\n    ∷ []\n"
             proved += f"\npub {name} : {premises}AsTold {arguments}lists.{name}\nunfolding {unfolded}\n{name} {arguments}= refl\n"

@@ -3,9 +3,11 @@
 
 The last line is `tools: N passed, M failed`.
 """
+import functools
 import importlib.machinery
 import importlib.util
 import os
+import re
 import shutil
 import subprocess
 import sys
@@ -117,8 +119,8 @@ def does_the_gate_distrust_silence():
 
 def gate_fails(first, then):
     """How many of its stages the gate counts as failed."""
-    ranks = [[shell(command) for command in rank] for rank in [first, *then]]
-    results = silently(loaded("gate").run_all, ranks[0], ranks[1:])
+    first, then = ([shell(command) for command in stages] for stages in (first, then))
+    results = silently(loaded("gate").run_all, first, then)
     return sum(failed > 0 for _, (_, failed, _) in results)
 
 
@@ -126,72 +128,98 @@ GOOD = "echo '1 passed, 0 failed'"
 
 
 def does_the_gate_run_all_stages():
-    return gate_fails([GOOD], [[GOOD, "false"], [GOOD]]) == 1
+    return gate_fails([GOOD], [GOOD, "false", GOOD]) == 1
 
 
 def does_the_gate_stop_where_nothing_is_proved():
-    return gate_fails(["false", GOOD], [[GOOD], [GOOD]]) == 4
+    return gate_fails(["false", GOOD], [GOOD, GOOD]) == 4
 
 
-def edits_verdict(code, log):
-    return loaded("tests/edits").verdict(code, log)[0]
+def does_the_gate_see_bad_edits():
+    wrong, ok = loaded("gate").wrong_proofs, "rt: ok; handles allowed: none; must-fail edits: 8 refused"
+    good = [wrong(f"{ok}; every proof and must-fail edit was done in this run\n"), wrong(f"{ok}, 0 bad; all\n")]
+    return good == [None, None] and all(wrong(said) for said in [f"{ok}, 2 bad; all\n", f"{ok}, 1 of them only by a limit, 1 bad; all\n"])
 
 
-FACT = "x/proofs/f/Proof.antt:1:1: error: `returns`: `omega`: the goal does not follow from what it read.\n"
-CONSEQUENCE = "x/proofs/g/Proof.antt:1:1: error: `g-spec`: `close` was not admitted (it was rejected), so this cannot be checked\n"
-SHAPE = "x/proofs/f/Proof.antt:1:1: error: `tie` has no `Need-returns-3` that can be named from here\n"
-REFUSED = "logic=not-proved\n"
+def does_the_gate_want_to_be_told_that_all_is_proved():
+    return bool(loaded("gate").wrong_proofs("rt: FAILED: one\n1 passed, 0 failed\n"))
+
+
+def edits_verdict(words):
+    return loaded("tests/edits").verdict(words)[0]
+
+
+AS_IT_MUST = "refused, as it must be"
+FACT = "./proofs/f/Answers.antt:1:1: error: `returns`: `omega`: the goal does not follow from what it read."
+SHAPE = "./proofs/f/Answers.antt:1:1: error: `f`: `Goals` has no `returns` that can be named from here"
+GONE = "(only because a proof file names what the edit took away, so this says little of the contract: change a value and keep the names)"
 
 
 def is_an_edit_refused_for_a_fact_taken():
-    return edits_verdict(1, FACT + REFUSED) and edits_verdict(1, CONSEQUENCE + FACT + REFUSED)
+    note = "note: src/lib.rt:1:1: it is not proved that what the function ensures holds when it returns (`returns`)"
+    return edits_verdict(f"{AS_IT_MUST}: {FACT}") and edits_verdict(f"{AS_IT_MUST}: {note}")
 
 
 def is_an_edit_refused_for_its_shape_seen():
-    return not edits_verdict(1, SHAPE + FACT + REFUSED) and not edits_verdict(1, CONSEQUENCE + REFUSED)
+    return not any(edits_verdict(words) for words in [f"{AS_IT_MUST}: {SHAPE}", f"{AS_IT_MUST} {GONE}: {FACT}", AS_IT_MUST])
 
 
 def is_an_edit_that_never_reached_the_prover_seen():
-    return not edits_verdict(1, FACT) and not edits_verdict(2, FACT + REFUSED)
+    limit = f"{AS_IT_MUST} (only by a limit of the prover, which gave no verdict): {FACT}"
+    return not any(edits_verdict(words) for words in ["BAD EDIT: " + FACT, "NOT TRIED: " + FACT, "NOT REFUSED: " + FACT, limit])
 
 
-SEVEN = """ghost use mathlib.Core.Path.{_≡_};
+SEVEN = """#![tactic(auto)]
+
+ghost use Rattle.std.specs.Prelude.{◌≡◌};
 
 pub fn seven() -> u8
-    ensures { λ r. ⌜ r ≡ 7 ⌝ }
+    ensures { result ≡ 7 }
 {
     7
 }
 """
+EDITS = {
+    "wrong": "file: src/lib.rt\nold:     7\nnew:     8\n",
+    "harmless": "file: src/lib.rt\nold:     7\nnew:     3 + 4\n",
+    "no_text": "file: src/lib.rt\nold:     9\nnew:     8\n",
+    "no_file": "new: 8\n",
+}
 
 
-def edits_say(edit):
-    """Whether the runner of the edits passes a crate of one function that answers 7, proved, with one edit."""
+@functools.lru_cache(maxsize=None)
+def edits_passed():
+    """Which of `EDITS` the runner of the edits passes, of a crate of one function that answers 7, proved; and its status."""
     with tempfile.TemporaryDirectory() as folder:
-        crate = os.path.join(folder, "crates", "seven")
-        for name, text in {"src/lib.rt": SEVEN, "must-fail/incremental/some.edit": edit}.items():
-            path = os.path.join(crate, name)
-            os.makedirs(os.path.dirname(path))
+        files = {"crates.txt": "seven:\n", "crates/seven/src/lib.rt": SEVEN}
+        files |= {f"crates/seven/must-fail/{name}.edit": text for name, text in EDITS.items()}
+        for name, text in files.items():
+            path = os.path.join(folder, name)
+            os.makedirs(os.path.dirname(path), exist_ok=True)
             with open(path, "w", encoding="utf-8") as file:
                 file.write(text)
-        with open(os.path.join(folder, "crates.txt"), "w", encoding="ascii") as file:
-            file.write("seven:\n")
         os.mkdir(os.path.join(folder, "tests"))
         shutil.copy(os.path.join(ROOT, "tests", "edits"), os.path.join(folder, "tests"))
-        subprocess.run(["rt", "check"], cwd=folder, stdout=subprocess.DEVNULL, check=True)
-        return status(os.path.join(folder, "tests", "edits")) == 0
+        subprocess.run(["rt", "check"], cwd=os.path.join(folder, "crates", "seven"), stdout=subprocess.DEVNULL, check=True)
+        run = subprocess.run([os.path.join(folder, "tests", "edits")], stdout=subprocess.PIPE, text=True, check=False)
+        return set(re.findall(r"^ok +seven/(\w+):", run.stdout, re.M)), run.returncode
 
 
 def is_a_wrong_answer_refused():
-    return edits_say("file: src/lib.rt\nold:     7\nnew:     8\n")
+    return "wrong" in edits_passed()[0]
 
 
 def is_a_harmless_edit_seen():
-    return not edits_say("file: src/lib.rt\nold:     7\nnew:     3 + 4\n")
+    return "harmless" not in edits_passed()[0] and edits_passed()[1] == 1
 
 
 def is_an_edit_of_nothing_seen():
-    return not edits_say("file: src/lib.rt\nold:     9\nnew:     8\n") and not edits_say("new: 8\n")
+    return not edits_passed()[0] & {"no_text", "no_file"} and edits_passed()[1] == 1
+
+
+def is_an_edit_that_was_not_tried_seen():
+    edits, said = loaded("tests/edits"), f"rt: must-fail one/tried.edit: {AS_IT_MUST}: {FACT}\n"
+    return silently(edits.report, said, ["one/tried"]) == 0 and silently(edits.report, said, ["one/other", "one/tried"]) == 1
 
 
 def is_a_kit_that_has_changed_told_in_one_line():
@@ -199,10 +227,10 @@ def is_a_kit_that_has_changed_told_in_one_line():
     with tempfile.TemporaryDirectory() as folder:
         path = os.path.join(folder, "rt")
         with open(path, "w", encoding="ascii") as file:
-            file.write(f"#!/bin/sh\necho {folder}/docs/START-HERE.md\n")
+            file.write(f"#!/bin/sh\necho {folder}/START-HERE.md\n")
         os.chmod(path, 0o755)
         run = subprocess.run(
-            [os.path.join(ROOT, "hosts/native"), "serialpost"],
+            [os.path.join(ROOT, "hosts/native"), "serialpost_c"],
             env={**os.environ, "PATH": folder + os.pathsep + os.environ["PATH"]},
             capture_output=True,
             text=True,
@@ -211,21 +239,28 @@ def is_a_kit_that_has_changed_told_in_one_line():
         return run.returncode == 1 and run.stdout == "" and run.stderr.count("\n") == 1 and "the kit has changed" in run.stderr
 
 
-def axioms_status(said, trusted="`libc::read`"):
-    """What tests/axioms thinks of one crate of which the prover said so; of none where that is empty."""
+def axioms_status(said, trusted="`libc::read`", proved="rt: one proved\n"):
+    """What tests/axioms thinks of one crate of which the prover said so, and `rt ci` that it is proved."""
     with tempfile.TemporaryDirectory() as folder:
-        for name in ["docs", "tests", "target/log"]:
-            os.makedirs(os.path.join(folder, name))
-        shutil.copy(os.path.join(ROOT, "tests/axioms"), os.path.join(folder, "tests"))
-        files = {"crates.txt": "one:\n", "docs/TRUSTED.md": trusted, "target/log/one.say": said}
+        files = {"crates.txt": "one staticlib: std\n", "docs/TRUSTED.md": trusted, "target/ci.log": proved, "target/one.said": said}
+        files["hosts/native"] = f"#!/bin/sh\necho {folder}/target/one.o\n"
         for name, text in files.items():
-            if text:
-                with open(os.path.join(folder, name), "w", encoding="utf-8") as file:
-                    file.write(text)
+            path = os.path.join(folder, name)
+            os.makedirs(os.path.dirname(path), exist_ok=True)
+            with open(path, "w", encoding="utf-8") as file:
+                file.write(text)
+        os.chmod(os.path.join(folder, "hosts/native"), 0o755)
+        os.mkdir(os.path.join(folder, "tests"))
+        shutil.copy(os.path.join(ROOT, "tests/axioms"), os.path.join(folder, "tests"))
         return status(os.path.join(folder, "tests/axioms"))
 
 
-USES_READ = "axioms libc: libc::read (1 of the 50 declared)\nlogic=proved functions=2 axioms=1 sum=0\n"
+USES_READ = """axioms libc: 1 reached of the 50 declared
+  libc::close
+  libc::read   reached
+axioms os: none reached of the 22 declared
+logic=proved functions=2 axioms=1 sum=0
+"""
 
 
 def is_a_trusted_axiom_taken():
@@ -241,22 +276,24 @@ def is_an_axiom_without_a_name_seen():
 
 
 def are_foreign_functions_seen():
-    return axioms_status(USES_READ.replace("axioms=1", "axioms=1 foreign=1")) == 1
+    own = USES_READ.replace("axioms os: none", "axioms one: none")
+    return axioms_status(USES_READ.replace("axioms=1", "axioms=1 foreign=1")) == 1 and axioms_status(own) == 1
 
 
 def is_a_crate_that_is_not_proved_seen():
-    return axioms_status(USES_READ.replace("logic=proved", "logic=not-proved")) == 1 and axioms_status("") == 1
+    unproved = [USES_READ.replace("logic=proved", "logic=not-proved"), ""]
+    return all(axioms_status(said) == 1 for said in unproved) and axioms_status(USES_READ, proved="rt: one NOT PROVED\n") == 1
 
 
 def is_an_axiom_trusted_in_vain_seen():
-    return axioms_status("logic=proved functions=2 sum=0\n") == 1
+    return axioms_status("axioms libc: none reached of the 50 declared\nlogic=proved functions=2 sum=0\n") == 1
 
 
 def docs_status(break_it):
     with tempfile.TemporaryDirectory() as folder:
         for name in ["docs", "lists", "crates", "compare", "hosts", "bench", "include", "tests"]:
             if os.path.isdir(os.path.join(ROOT, name)):
-                shutil.copytree(os.path.join(ROOT, name), os.path.join(folder, name), ignore=shutil.ignore_patterns("target"))
+                shutil.copytree(os.path.join(ROOT, name), os.path.join(folder, name), ignore=shutil.ignore_patterns("target", "out"))
         shutil.copy(os.path.join(ROOT, "README.md"), folder)
         break_it(folder)
         return status(sys.executable, os.path.join(folder, "docs/check.py"))
@@ -273,7 +310,7 @@ def replaced(folder, path, old, new):
 def manual_status(break_it):
     with tempfile.TemporaryDirectory() as folder:
         for name in ["lists", "crates/manual_lists"]:
-            shutil.copytree(os.path.join(ROOT, name), os.path.join(folder, name))
+            shutil.copytree(os.path.join(ROOT, name), os.path.join(folder, name), ignore=shutil.ignore_patterns("out"))
         break_it(folder)
         return status(sys.executable, os.path.join(folder, "lists/manual.py"), "--check")
 
@@ -296,11 +333,11 @@ def is_a_row_without_a_list_seen():
 
 
 def is_a_constructor_without_a_row_seen():
-    return docs_status(lambda folder: replaced(folder, "crates/pl031/specs/Compare.antt", "  clock-restarts :", "  clock-stops :")) == 1
+    return docs_status(lambda folder: replaced(folder, "crates/pl031/specs/Compare.antt", "  clock_restarts :", "  clock_stops :")) == 1
 
 
 def is_a_theorem_that_is_not_there_seen():
-    return docs_status(lambda folder: replaced(folder, "docs/THEOREMS.md", "`fe-resets`", "`ff-resets`")) == 1
+    return docs_status(lambda folder: replaced(folder, "docs/THEOREMS.md", "`fe_resets`", "`ff_resets`")) == 1
 
 
 def is_a_link_to_nowhere_seen():
@@ -321,12 +358,15 @@ TESTS = [
     does_the_gate_distrust_silence,
     does_the_gate_run_all_stages,
     does_the_gate_stop_where_nothing_is_proved,
+    does_the_gate_see_bad_edits,
+    does_the_gate_want_to_be_told_that_all_is_proved,
     is_an_edit_refused_for_a_fact_taken,
     is_an_edit_refused_for_its_shape_seen,
     is_an_edit_that_never_reached_the_prover_seen,
     is_a_wrong_answer_refused,
     is_a_harmless_edit_seen,
     is_an_edit_of_nothing_seen,
+    is_an_edit_that_was_not_tried_seen,
     is_a_kit_that_has_changed_told_in_one_line,
     is_a_trusted_axiom_taken,
     is_an_axiom_that_nobody_trusts_seen,

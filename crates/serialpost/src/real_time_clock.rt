@@ -9,61 +9,44 @@ ghost use Rattle.clock_form.specs.Calls.{Encodes, Decodes};
 
 use clock::Clock;
 
-#[unsafe(no_mangle)]
-pub extern "C" fn serialpost5_clock_init(clock: &mut Clock)
+pub fn serialpost5_clock_init(clock: &mut Clock)
     ensures { Inits clock.new }
 {
     clock::init(clock);
 }
 
-#[unsafe(no_mangle)]
-pub extern "C" fn serialpost5_clock_read(
-    clock: &Clock,
-    offset: u16,
-    time: u64,
-    bytes: &mut [u8; 4],
-) -> u32
+pub fn serialpost5_clock_read(clock: &Clock, offset: u16, time: u64, bytes: &mut [u8; 4]) -> u32
     ensures { Reads (read_of (clock_of clock.now) time offset) bytes.old bytes.new result }
 {
     clock::read(clock, offset, time, bytes)
 }
 
-#[unsafe(no_mangle)]
-pub extern "C" fn serialpost5_clock_write(
-    clock: &mut Clock,
-    offset: u16,
-    time: u64,
-    bytes: &[u8; 4],
-) -> u32
+pub fn serialpost5_clock_write(clock: &mut Clock, offset: u16, time: u64, bytes: &[u8; 4]) -> u32
     ensures { Writes (write_of (clock_of clock.old) time offset (value_of bytes.now)) clock.old
         clock.new result }
 {
     clock::write(clock, offset, time, bytes)
 }
 
-#[unsafe(no_mangle)]
-pub extern "C" fn serialpost5_clock_save(clock: &Clock, saved: &mut Clock)
+pub fn serialpost5_clock_save(clock: &Clock, saved: &mut Clock)
     ensures { saved.new ≡ clock.now }
 {
     clock_saved::save(clock, saved);
 }
 
-#[unsafe(no_mangle)]
-pub extern "C" fn serialpost5_clock_restore(clock: &mut Clock, saved: &Clock) -> u32
+pub fn serialpost5_clock_restore(clock: &mut Clock, saved: &Clock) -> u32
     ensures { Restores saved.now clock.new result }
 {
     clock_saved::restore(clock, saved)
 }
 
-#[unsafe(no_mangle)]
-pub extern "C" fn serialpost5_clock_encode(saved: &Clock, form: &mut [u8]) -> u32
+pub fn serialpost5_clock_encode(saved: &Clock, form: &mut [u8]) -> u32
     ensures { Encodes saved.now form.old form.new result }
 {
     clock_form::encode(saved, form)
 }
 
-#[unsafe(no_mangle)]
-pub extern "C" fn serialpost5_clock_decode(form: &[u8], saved: &mut Clock) -> u32
+pub fn serialpost5_clock_decode(form: &[u8], saved: &mut Clock) -> u32
     ensures { Decodes (read_form form.now) saved.old saved.new result }
 {
     clock_form::decode(form, saved)

@@ -2,15 +2,13 @@
 ghost use Rattle.std.specs.Prelude.{◌≡◌};
 ghost use Rattle.i8042.specs.I8042.{read_of, write_resets};
 
-#[unsafe(no_mangle)]
-pub extern "C" fn serialpost5_i8042_read(offset: u8) -> u8
+pub fn serialpost5_i8042_read(offset: u8) -> u8
     ensures { result ≡ read_of offset }
 {
     i8042::read(offset)
 }
 
-#[unsafe(no_mangle)]
-pub extern "C" fn serialpost5_i8042_write(offset: u8, value: u8) -> bool
+pub fn serialpost5_i8042_write(offset: u8, value: u8) -> bool
     ensures { result ≡ write_resets offset value }
 {
     i8042::write(offset, value)

@@ -8,28 +8,20 @@ ghost use Rattle.serial_form.specs.Calls.{Encodes, Decodes};
 
 use serial::memory::{Pos, Regs, Ring};
 
-#[unsafe(no_mangle)]
-pub extern "C" fn serialpost5_serial_init(regs: &mut Regs, pos: &mut Pos, size: u32) -> u32
+pub fn serialpost5_serial_init(regs: &mut Regs, pos: &mut Pos, size: u32) -> u32
     ensures { Makes size regs.old pos.old regs.new pos.new result }
 {
     serial::init(regs, pos, size)
 }
 
-#[unsafe(no_mangle)]
-pub extern "C" fn serialpost5_serial_read(
-    regs: &mut Regs,
-    pos: &mut Pos,
-    ring: &Ring,
-    offset: u8,
-) -> u32
+pub fn serialpost5_serial_read(regs: &mut Regs, pos: &mut Pos, ring: &Ring, offset: u8) -> u32
     ensures { Reads (λ p. read_of p offset)
         regs.old pos.old ring.now regs.new pos.new result }
 {
     serial::read(regs, pos, ring, offset)
 }
 
-#[unsafe(no_mangle)]
-pub extern "C" fn serialpost5_serial_write(
+pub fn serialpost5_serial_write(
     regs: &mut Regs,
     pos: &mut Pos,
     ring: &mut Ring,
@@ -42,8 +34,7 @@ pub extern "C" fn serialpost5_serial_write(
     serial::write(regs, pos, ring, offset, value)
 }
 
-#[unsafe(no_mangle)]
-pub extern "C" fn serialpost5_serial_input(
+pub fn serialpost5_serial_input(
     regs: &mut Regs,
     pos: &mut Pos,
     ring: &mut Ring,
@@ -55,29 +46,25 @@ pub extern "C" fn serialpost5_serial_input(
     serial::input(regs, pos, ring, input)
 }
 
-#[unsafe(no_mangle)]
-pub extern "C" fn serialpost5_serial_size(regs: &Regs) -> u32
+pub fn serialpost5_serial_size(regs: &Regs) -> u32
     ensures { HasSize regs.now result }
 {
     serial::size(regs)
 }
 
-#[unsafe(no_mangle)]
-pub extern "C" fn serialpost5_serial_room(regs: &Regs, pos: &Pos) -> u32
+pub fn serialpost5_serial_room(regs: &Regs, pos: &Pos) -> u32
     ensures { HasRoom regs.now pos.now result }
 {
     serial::room(regs, pos)
 }
 
-#[unsafe(no_mangle)]
-pub extern "C" fn serialpost5_serial_line(regs: &Regs, pos: &Pos) -> bool
+pub fn serialpost5_serial_line(regs: &Regs, pos: &Pos) -> bool
     ensures { IsHigh regs.now pos.now result }
 {
     serial::line(regs, pos)
 }
 
-#[unsafe(no_mangle)]
-pub extern "C" fn serialpost5_serial_play(
+pub fn serialpost5_serial_play(
     regs: &mut Regs,
     pos: &mut Pos,
     ring: &mut Ring,
@@ -91,8 +78,7 @@ pub extern "C" fn serialpost5_serial_play(
     play::play(regs, pos, ring, ops, inputs, answers)
 }
 
-#[unsafe(no_mangle)]
-pub extern "C" fn serialpost5_serial_save(
+pub fn serialpost5_serial_save(
     regs: &Regs,
     pos: &Pos,
     ring: &Ring,
@@ -105,8 +91,7 @@ pub extern "C" fn serialpost5_serial_save(
     serial_saved::save(regs, pos, ring, saved, waiting)
 }
 
-#[unsafe(no_mangle)]
-pub extern "C" fn serialpost5_serial_restore(
+pub fn serialpost5_serial_restore(
     regs: &mut Regs,
     pos: &mut Pos,
     ring: &mut Ring,
@@ -120,19 +105,13 @@ pub extern "C" fn serialpost5_serial_restore(
     serial_saved::restore(regs, pos, ring, saved, waiting)
 }
 
-#[unsafe(no_mangle)]
-pub extern "C" fn serialpost5_serial_encode(saved: &Regs, waiting: &[u8], form: &mut [u8]) -> u32
+pub fn serialpost5_serial_encode(saved: &Regs, waiting: &[u8], form: &mut [u8]) -> u32
     ensures { Encodes saved.now waiting.now form.old form.new result }
 {
     serial_form::encode(saved, waiting, form)
 }
 
-#[unsafe(no_mangle)]
-pub extern "C" fn serialpost5_serial_decode(
-    form: &[u8],
-    saved: &mut Regs,
-    waiting: &mut Ring,
-) -> u32
+pub fn serialpost5_serial_decode(form: &[u8], saved: &mut Regs, waiting: &mut Ring) -> u32
     ensures { Decodes (read_form form.now)
         saved.old waiting.old saved.new waiting.new result }
 {

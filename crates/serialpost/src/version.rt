@@ -4,8 +4,7 @@ ghost use Rattle.serialpost.specs.Version.{version};
 
 const VERSION: u32 = 5;
 
-#[unsafe(no_mangle)]
-pub extern "C" fn serialpost5_version() -> u32
+pub fn serialpost5_version() -> u32
     ensures { result ≡ version }
 {
     VERSION
