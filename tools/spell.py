@@ -7,7 +7,7 @@ It was run once, after the toolchain's own script (docs/PORT.md), and stands her
 compared. A name is respelled if a file of specs/ or proofs/ declares it: commandPort and only-fe become command_port and only_fe. Names
 that the toolchain or its library gives, names of functions, types and modules stay. Where a definition and a lemma would fall together
 the lemma gets the ending _lem. In a must-fail edit, the names of the lines old: and new: follow their file; in a page, a name between
-back quotes. --check writes nothing and prints the names that would be respelled, and those that fall together with another.
+back quotes. The edits of must-fail/incremental/ go up one folder, to where the gate now reads them. --check writes nothing and prints the names that would be respelled, and those that fall together with another.
 """
 import collections
 import glob
@@ -161,6 +161,9 @@ def main(words):
     folders = [it for it in words if not it.startswith("--")]
     top = os.path.abspath(folders[0] if folders else os.path.join(os.path.dirname(os.path.abspath(__file__)), ".."))
     names = Names(top)
+    if not check:
+        for edit in glob.glob(f"{top}/crates/*/must-fail/incremental/*.edit"):
+            os.rename(edit, os.path.join(os.path.dirname(os.path.dirname(edit)), os.path.basename(edit)))
     edits = sorted(glob.glob(f"{top}/crates/*/must-fail/**/*.edit", recursive=True))
     pages = sorted(glob.glob(f"{top}/docs/*.md") + glob.glob(f"{top}/*.md"))
     pages = [it for it in pages if os.path.basename(it) not in ("PORT.md",)]

@@ -1,9 +1,8 @@
 -- Turns, line by line.
-use Prim.Native.Nat.{ℕ, ◌+◌, ◌-◌, ◌≤◌, ◌<◌}
+use Prim.Native.Nat.{ℕ, ◌-◌, ◌≤◌, ◌<◌}
 use mathlib.Core.Path.{◌≡◌, refl, sym, ap, subst, ◌∙◌}
 use mathlib.Core.Bool.{Bool, true, false}
-use mathlib.Core.List.{List, [], ◌∷◌, ◌++◌, append_assoc, append-nil}
-use mathlib.Core.Logic.{◌⊎◌, ⊎_elim}
+use mathlib.Core.List.{List, [], ◌++◌, append_assoc, append-nil}
 use native.Mathlib.Omega.{arith}
 use lib.ListN.{length}
 use Rattle.pieces.specs.Cutting.{lines_in, rest_of, bytes_from, cut_of}
@@ -14,13 +13,10 @@ use Rattle.pieces.specs.declared.cut.Cut.{Cut}
 use Rattle.pieces.proofs.Lines.{joined, lines_append, rest_append}
 use Rattle.words.specs.Put.{Puts}
 use Rattle.words.proofs.Putting.{both}
-use denote.Enum.Declared.{tag_of}
 use Rattle.clock.specs.Layout.{Words}
 use Rattle.clock_lines.specs.declared.Said as clock-said
 use Rattle.serial_lines.specs.declared.Said as serial-said
 use Rattle.lines.specs.declared.devices.Task.{Task}
-use Rattle.lines.specs.declared.devices.Whose.{Whose}
-use Rattle.lines.specs.contracts.devices.Whose.{the_type}
 use Rattle.lines.specs.declared.devices.Whose.TheVariants as whose
 use Rattle.lines.specs.Handing.{task_of, plain_says, BeginsClock, AnswersClock, BeginsSerial, AnswersSerial}
 use Rattle.lines.specs.Answering.{Does, clock, port, plain, Answers, none, next, told_of, Reads}

@@ -9,7 +9,7 @@ use Rattle.common.specs.Bits.{on}
 use Rattle.interrupts.specs.Interrupts.{ier_stored}
 use Rattle.serial.specs.Port.{Register, RBR_THR, IER, IIR_FCR, LCR, MCR, LSR, MSR, SCR, DLL, DLM, reserved, addressed, Settings, Port}
 use Rattle.serial.specs.Port.{in_loop, has_room, put_ier, put_lcr, put_mcr, put_scr, put_dll, put_dlm, put_fcr, fcr_stored, Out, receives, write_ier, write_line}
-use Rattle.serial.specs.Port.{with_settings, becomes, write_loop, flushes, write_fcr, write_register}
+use Rattle.serial.specs.Port.{write_loop, write_fcr, write_register}
 
 -- what holds of both of a test's cases holds of its outcome
 pub both : {A : Type 0} (P : A → Type 0) (t : Bool) {a b : A} → P a → P b → P (cond t a b)

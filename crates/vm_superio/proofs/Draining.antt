@@ -1,14 +1,13 @@
 -- The reads by which the original's guest fetches what waits: what they leave. A run beside ours is a run of the original with these reads
 -- among its operations; where no write empties, it is the original's own run of the same operations.
-use mathlib.Core.Path.{◌≡◌, refl, sym, ap, ◌∙◌}
+use mathlib.Core.Path.{◌≡◌, refl, ap, ◌∙◌}
 use mathlib.Core.List.{List, [], ◌∷◌, ◌++◌, tail}
 use mathlib.Core.Bool.{Bool, true, false, cond}
 use Prim.Native.Nat.{ℕ}
-use lib.Dec.{eqb}
 use Rattle.line_status.specs.LineStatus.{lsr_after_read}
 use Rattle.serial.specs.Port.{addressed}
-use Rattle.runs.specs.Run.{Op, read, write, input, room}
-use Rattle.vm_superio.specs.Original.{Original, Settings, put_lcr, with_settings, with_receiver, received_data, unmark, read_rbr}
+use Rattle.runs.specs.Run.{Op, read, write}
+use Rattle.vm_superio.specs.Original.{Original, put_lcr, with_settings, with_receiver, received_data, unmark, read_rbr}
 use Rattle.vm_superio.specs.Original.{read_register, write_register, step, Ran, run}
 use Rattle.vm_superio.specs.Beside.{is_emptied, once_for_each, fetching, drained, next, run_beside, with_fetching, NoneEmptied}
 use Rattle.vm_superio.proofs.Marks.{data_unmarked_twice}

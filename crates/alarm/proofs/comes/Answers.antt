@@ -1,7 +1,6 @@
 -- Each return is a case of the definition.
 use mathlib.Core.Path.{◌∙◌}
 use Rattle.alarm.proofs.Laws.{unknown_elsewhere, unknown_there, came_before, from_looked, from_set}
-use borrow.Author.Rules.{rules}
 use Rattle.alarm.proofs.comes.Goals as goal
 
 pub returns-then-value-at : goal.returns-then-value-at

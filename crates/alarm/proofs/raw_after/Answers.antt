@@ -1,7 +1,6 @@
 -- Each return is a case of the definition.
 use mathlib.Core.Path.{sym, ◌∙◌}
 use Rattle.alarm.proofs.Laws.{status_set, status_stays}
-use borrow.Author.Rules.{rules}
 use Rattle.alarm.proofs.raw_after.Goals as goal
 
 pub returns-then-comes : goal.returns-then-comes

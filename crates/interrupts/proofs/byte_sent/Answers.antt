@@ -1,9 +1,8 @@
 -- Each answer is a law of `Laws`.
-use borrow.Author.Tests.{eq-eqb, ne_eqb}
+use borrow.Author.Tests.{ne_eqb}
 use mathlib.Core.Bool.{not}
 use mathlib.Core.Path.{ap}
-use Rattle.interrupts.proofs.Laws.{sent_quiet, sent_told}
-use borrow.Author.Rules.{rules}
+use Rattle.interrupts.proofs.Laws.{sent_told}
 use Rattle.interrupts.proofs.byte_sent.Goals as goal
 
 pub returns : goal.returns

@@ -2,7 +2,6 @@
 use mathlib.Core.Bool.{true}
 use mathlib.Core.Path.{refl, sym, ◌∙◌}
 use Rattle.interrupts.specs.Interrupts.{code}
-use borrow.Author.Rules.{rules}
 use Rattle.interrupts.proofs.code.Goals as goal
 
 pub returns-then-has_data : goal.returns-then-has_data

@@ -1,6 +1,5 @@
 -- Each answer is a law of `Laws`.
-use Rattle.interrupts.proofs.Laws.{came_behind, came_first}
-use borrow.Author.Rules.{rules}
+use Rattle.interrupts.proofs.Laws.{came_first}
 use Rattle.interrupts.proofs.data_came.Goals as goal
 
 pub returns : goal.returns

@@ -1,7 +1,6 @@
 -- The answer is a law of `Laws`.
 use mathlib.Core.Path.{refl}
 use Rattle.interrupts.proofs.Laws.{enabled}
-use borrow.Author.Rules.{rules}
 use Rattle.interrupts.proofs.enabling.Goals as goal
 
 pub returns : goal.returns

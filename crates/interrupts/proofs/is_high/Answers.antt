@@ -2,7 +2,6 @@
 use mathlib.Core.Bool.{true}
 use mathlib.Core.Path.{refl, sym, ◌∙◌}
 use Rattle.interrupts.specs.Interrupts.{is_high}
-use borrow.Author.Rules.{rules}
 use Rattle.interrupts.proofs.is_high.Goals as goal
 
 pub returns-then-has_data : goal.returns-then-has_data

@@ -2,7 +2,6 @@
 use mathlib.Core.Bool.{true}
 use mathlib.Core.Path.{refl, sym, ◌∙◌}
 use Rattle.interrupts.specs.Interrupts.{settled}
-use borrow.Author.Rules.{rules}
 use Rattle.interrupts.proofs.settled.Goals as goal
 
 pub returns-then-empty : goal.returns-then-empty

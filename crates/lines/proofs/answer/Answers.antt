@@ -1,14 +1,8 @@
 -- The place stays sound with each line, and each line is a law of `Turning`.
-use Prim.Native.Nat.{◌-◌, ◌≤◌}
-use mathlib.Core.Path.{◌≡◌}
-use mathlib.Core.Bool.{true, false, true≢false, false≢true}
 use native.Mathlib.Omega.{arith}
-use lib.ListN.{length}
-use Rattle.pieces.specs.Pieces.{Sound}
-use Rattle.lines.specs.Inside.{Turns}
 use Rattle.lines.proofs.Going.{goes_on_lem}
 use Rattle.lines.proofs.Handing.{size_is_named}
-use Rattle.lines.proofs.Turning.{turn_begins, turn_clock, turn_port, turn_plain, turn_ends, devices}
+use Rattle.lines.proofs.Turning.{turn_begins, turn_clock, turn_port, turn_plain}
 use borrow.Author.Rules.{rules}
 use Rattle.lines.proofs.answer.Goals as goal
 
@@ -21,7 +15,7 @@ loop-state-preserved-in-Clocks c = (
   turn_clock c.loop-state.invariant.1 c.loop-state.invariant.0.0 c.loop-state-test.true c.loop-state.invariant.0.2
       c.next_line-cut.ensures.cuts c.next_line-cut.ensures.value c.task_of-task.ensures
       c.in-Clocks.is c.clock-said.ensures.begins_clock c.clock-said.ensures.answers_clock c.clock-said.ensures.words,
-  )
+)
 
 pub serial-said-requires-clause-line_value : goal.serial-said-requires-clause-line_value
 serial-said-requires-clause-line_value c = size_is_named _ c.next_line-cut.result.kind c.loop-state.device c.task_of-task.ensures c.in-Ports.is
@@ -32,7 +26,7 @@ loop-state-preserved-in-Ports c = (
   turn_port c.loop-state.invariant.1 c.loop-state.invariant.0.0 c.loop-state-test.true c.loop-state.invariant.0.2
       c.next_line-cut.ensures.cuts c.next_line-cut.ensures.value c.task_of-task.ensures
       c.in-Ports.is c.serial-said.ensures.begins_serial c.serial-said.ensures.answers_serial,
-  )
+)
 
 pub loop-state-preserved : goal.loop-state-preserved
 loop-state-preserved c = (
@@ -40,4 +34,4 @@ loop-state-preserved c = (
   turn_plain c.loop-state.invariant.1 c.loop-state.invariant.0.0 c.loop-state-test.true c.loop-state.invariant.0.2
       c.next_line-cut.ensures.cuts c.next_line-cut.ensures.value c.task_of-task.ensures
       c.in_default.not-Clocks c.in_default.not-Ports c.plain.ensures.puts,
-  )
+)

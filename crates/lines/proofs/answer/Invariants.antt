@@ -1,15 +1,10 @@
 -- The place stays sound with each line, and each line is a law of `Turning`.
 use Prim.Native.Nat.{◌-◌, ◌≤◌}
 use mathlib.Core.Path.{◌≡◌}
-use mathlib.Core.Bool.{true, false, true≢false, false≢true}
-use native.Mathlib.Omega.{arith}
 use lib.ListN.{length}
 use Rattle.pieces.specs.Pieces.{Sound}
 use Rattle.lines.specs.Inside.{Turns}
-use Rattle.lines.proofs.Going.{goes_on_lem}
-use Rattle.lines.proofs.Handing.{size_is_named}
-use Rattle.lines.proofs.Turning.{turn_begins, turn_clock, turn_port, turn_plain, turn_ends, devices}
-use borrow.Author.Rules.{rules}
+use Rattle.lines.proofs.Turning.{devices}
 use Rattle.lines.proofs.answer.Given as goal
 
 abbrev pub invariant-loop-state : goal.invariant-loop-state

@@ -5,7 +5,6 @@ use lib.Bits.{bit_and, bit_or, and_mask, or_shifted_r}
 use Rattle.common.specs.Bits.{bit}
 use Rattle.common.proofs.EveryByte.{same}
 use Rattle.modem.specs.Modem.{looped_lines, msr_read}
-use borrow.Author.Rules.{rules}
 use Rattle.modem.proofs.msr_read.Goals as goal
 
 -- The lines by shifts and masks are a high half ..

@@ -1,9 +1,6 @@
 -- `is_run` meets its contract. The loop's invariant: whether the bytes are a run turns on what is left of them.
-use Prim.Native.Nat.{◌+◌, ◌-◌, ◌≤◌}
-use lib.ListN.{length}
 use native.Mathlib.Omega.{arith}
-use borrow.Author.Rules.{rules}
-use Rattle.play.proofs.Decoding.{Scanned, scanned_none, uneven, whole, scanned_kind, scanned_short, scanned_more, scanned_all}
+use Rattle.play.proofs.Decoding.{uneven, scanned_kind, scanned_short, scanned_more, scanned_all}
 use Rattle.play.proofs.is_run.Goals as goal
 
 pub returns-then-end-ne0 : goal.returns-then-end-ne0

@@ -1,13 +1,9 @@
 -- `play` meets its contract. The loop's invariant: the run is what the operations played so far did and what is left does.
 use mathlib.Core.Path.{sym, ◌∙◌}
-use Prim.Native.Nat.{◌+◌, ◌-◌, ◌*◌, ◌<◌, ◌≤◌}
+use Prim.Native.Nat.{◌+◌, ◌*◌, ◌<◌, ◌≤◌}
 use native.Mathlib.Omega.{arith}
-use borrow.Author.Rules.{rules}
 use lib.ListN.{length}
-use Rattle.serial.specs.Layout.{port_of}
-use borrow.Author.Tests.{not-true, not-false}
-use Rattle.play.proofs.Decoding.{takes_at}
-use Rattle.play.proofs.Playing.{Playing, Through, playing_none, through_none, next_bytes, playing_next, through_next, refuses_no_run, refuses_too_many, plays_all}
+use Rattle.play.proofs.Playing.{next_bytes, playing_next, through_next, refuses_too_many, plays_all}
 use Rattle.play.proofs.play.Goals as goal
 
 pub returns-then-answers-count : goal.returns-then-answers-count

@@ -1,13 +1,7 @@
 -- `play` meets its contract. The loop's invariant: the run is what the operations played so far did and what is left does.
-use mathlib.Core.Path.{sym, ◌∙◌}
-use Prim.Native.Nat.{◌+◌, ◌-◌, ◌*◌, ◌<◌, ◌≤◌}
-use native.Mathlib.Omega.{arith}
-use borrow.Author.Rules.{rules}
-use lib.ListN.{length}
+use Prim.Native.Nat.{◌-◌}
 use Rattle.serial.specs.Layout.{port_of}
-use borrow.Author.Tests.{not-true, not-false}
-use Rattle.play.proofs.Decoding.{takes_at}
-use Rattle.play.proofs.Playing.{Playing, Through, playing_none, through_none, next_bytes, playing_next, through_next, refuses_no_run, refuses_too_many, plays_all}
+use Rattle.play.proofs.Playing.{Playing, Through}
 use Rattle.play.proofs.play.Given as goal
 
 abbrev pub invariant-loop-i : goal.invariant-loop-i

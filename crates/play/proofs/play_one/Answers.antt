@@ -1,5 +1,4 @@
 -- `play_one` meets its contract: each arm is one of the four operations.
-use borrow.Author.Rules.{rules}
 use Rattle.play.proofs.Words.{answers_read, answers_write, answers_input, answers_room}
 use Rattle.play.proofs.play_one.Goals as goal
 

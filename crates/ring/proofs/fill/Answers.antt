@@ -1,7 +1,6 @@
 -- The loop's invariant and its laws are of `Laws`.
-use Rattle.std.proofs.Common.{◌-◌, rules}
 use Rattle.ring.specs.Ring.{places_here}
-use Rattle.ring.proofs.Laws.{SoFar, none_yet, one_more_there, all_there}
+use Rattle.ring.proofs.Laws.{one_more_there}
 use Rattle.ring.proofs.fill.Goals as goal
 
 pub loop-i-preserved : goal.loop-i-preserved

@@ -1,7 +1,6 @@
 -- Each answer is a law of `Laws`.
 use Rattle.ring.specs.Ring.{places_here}
 use Rattle.ring.proofs.Laws.{put_none, put_more}
-use Rattle.std.proofs.Common.{rules}
 use Rattle.ring.proofs.push.Goals as goal
 
 pub returns : goal.returns

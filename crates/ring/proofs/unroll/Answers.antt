@@ -1,7 +1,6 @@
 -- The loop's invariant and its laws are of `Unrolling`.
-use Rattle.std.proofs.Common.{◌-◌, rules}
 use Rattle.ring.specs.Ring.{places_here}
-use Rattle.ring.proofs.Unrolling.{SoFar, none_yet, one_more, all_there}
+use Rattle.ring.proofs.Unrolling.{none_yet, one_more}
 use Rattle.ring.proofs.unroll.Goals as goal
 
 pub loop-i-init : goal.loop-i-init

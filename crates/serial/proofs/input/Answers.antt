@@ -3,7 +3,6 @@ use native.Mathlib.Omega.{arith}
 use mathlib.Core.Path.{refl, sym, ◌∙◌}
 use Rattle.serial.specs.Layout.{port_of}
 use Rattle.serial.proofs.Receiving.{line_cut, line_idle, line_full, line_receives}
-use borrow.Author.Rules.{rules}
 use Rattle.serial.proofs.input.Goals as goal
 
 pub returns-then-is_loop : goal.returns-then-is_loop

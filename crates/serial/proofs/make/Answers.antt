@@ -1,6 +1,5 @@
 -- The answer is a law of `Registers`.
 use Rattle.serial.proofs.Registers.{makes_fresh}
-use borrow.Author.Rules.{rules}
 use Rattle.serial.proofs.make.Goals as goal
 
 pub returns : goal.returns

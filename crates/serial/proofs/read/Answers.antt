@@ -6,7 +6,6 @@ use Rattle.serial.specs.Port.{addressed, read_register}
 use Rattle.serial.specs.Layout.{port_of}
 use Rattle.serial.proofs.Addressing.{at_dll, at_dlm, at_data, at_ier, at_iir, at_reserved}
 use Rattle.serial.proofs.Reading.{answers, answers_at, answers_kept, hands_on}
-use borrow.Author.Rules.{rules}
 use Rattle.serial.proofs.read.Goals as goal
 
 from_two : (offset : ℕ) → (offset ≡ 0 → ⊥) → (offset ≡ 1 → ⊥) → 2 ≤ offset

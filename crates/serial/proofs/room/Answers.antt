@@ -1,7 +1,6 @@
 -- Each answer is a law of `Receiving`.
 use native.Mathlib.Omega.{arith}
 use Rattle.serial.proofs.Receiving.{no_room_left, room_left}
-use borrow.Author.Rules.{rules}
 use Rattle.serial.proofs.room.Goals as goal
 
 pub returns-then-n-size : goal.returns-then-n-size

@@ -1,6 +1,5 @@
 -- The answer is a law of `Receiving`.
 use Rattle.serial.proofs.Receiving.{size_is}
-use borrow.Author.Rules.{rules}
 use Rattle.serial.proofs.size.Goals as goal
 
 pub returns : goal.returns

@@ -3,7 +3,6 @@ use mathlib.Core.Path.{sym, ◌∙◌}
 use Rattle.serial.specs.Layout.{port_of}
 use Rattle.serial.proofs.Addressing.{at_data, at_ier, at_iir}
 use Rattle.serial.proofs.Sending.{stores_dll, stores_dlm, stores_lcr, stores_mcr, stores_scr, stores_nothing, transmits, enables, controls}
-use borrow.Author.Rules.{rules}
 use Rattle.serial.proofs.write.Goals as goal
 
 pub returns-then-offset-eq0 : goal.returns-then-offset-eq0

@@ -1,6 +1,5 @@
 -- The answer is a law of `Saying`.
 use Rattle.serial_access.proofs.Saying.{takes}
-use borrow.Author.Rules.{rules}
 use Rattle.serial_access.proofs.input.Goals as goal
 
 pub returns-clause-did_input : goal.returns-clause-did_input

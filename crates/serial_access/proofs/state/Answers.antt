@@ -1,6 +1,5 @@
 -- The answer is a law of `Saying`.
 use Rattle.serial_access.proofs.Saying.{state_of}
-use borrow.Author.Rules.{rules}
 use Rattle.serial_access.proofs.state.Goals as goal
 
 pub returns-clause-puts : goal.returns-clause-puts

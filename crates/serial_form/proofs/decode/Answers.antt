@@ -1,16 +1,10 @@
-use mathlib.Core.Path.{◌≡◌, sym, ◌∙◌}
-use Prim.Native.Nat.{ℕ, ◌≤◌}
+use mathlib.Core.Path.{sym, ◌∙◌}
 use native.Mathlib.Omega.{arith}
-use mathlib.Core.List.{List}
-use lib.ListN.{length}
 use Rattle.common.specs.Forms.{too_short, version}
-use Rattle.serial_form.specs.Form.{version2, version3, number_of, version_in}
+use Rattle.serial_form.specs.Form.{version2, version3, number_of}
 use Rattle.serial_form.proofs.Reading.{no_version_lem, known_version, other_version_lem, version_found}
 use Rattle.serial_form.proofs.RoundTrip.{neither}
 use Rattle.serial_form.proofs.Answers.{refuses, goes_on_lem}
-use borrow.Author.Rules.{rules}
-use Rattle.serial_form.proofs.decode_version_2.Reads as decode-version-2-reads
-use Rattle.serial_form.proofs.decode_version_3.Reads as decode-version-3-reads
 use Rattle.serial_form.proofs.decode.Goals as goal
 
 pub returns-then-form-lt-REGISTERS : goal.returns-then-form-lt-REGISTERS

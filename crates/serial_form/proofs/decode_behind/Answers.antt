@@ -2,7 +2,6 @@ use native.Mathlib.Omega.{arith}
 use Rattle.common.specs.Forms.{too_short, trailing, too_many}
 use Rattle.serial_form.proofs.Reading.{too_many_lem, too_few_lem, left_over_lem}
 use Rattle.serial_form.proofs.Answers.{refuses, accepts}
-use borrow.Author.Rules.{rules}
 use Rattle.serial_form.proofs.decode_behind.Goals as goal
 
 pub returns-then-size-n : goal.returns-then-size-n

@@ -2,7 +2,6 @@ use Rattle.common.specs.Forms.{too_short}
 use Rattle.serial_form.specs.Form.{version3, start}
 use Rattle.serial_form.proofs.Reading.{no_count}
 use Rattle.serial_form.proofs.Answers.{refuses, finds_3}
-use borrow.Author.Rules.{rules}
 use Rattle.serial_form.proofs.decode_version_3.Goals as goal
 
 pub returns-then-form-lt-WAITING : goal.returns-then-form-lt-WAITING

@@ -1,11 +1,6 @@
-use mathlib.Core.Path.{◌≡◌, ◌∙◌}
-use mathlib.Core.List.{List}
-use Prim.Native.Nat.{ℕ}
+use mathlib.Core.Path.{◌∙◌}
 use native.Mathlib.Omega.{arith}
-use borrow.Author.Tests.{not-true, not-false}
-use Rattle.serial_form.specs.Calls.{has_no_spare}
-use Rattle.serial_form.proofs.Answers.{as_found, encode_refuses, encode_refuses_spare, encode_tells, encode_writes}
-use borrow.Author.Rules.{rules}
+use Rattle.serial_form.proofs.Answers.{as_found, encode_tells, encode_writes}
 use Rattle.serial_form.proofs.encode.Goals as goal
 
 pub returns-then-form-len : goal.returns-then-form-len

@@ -1,8 +1,6 @@
 -- The loop's invariant and its laws are of `Copying`.
 use Prim.Native.Nat.{◌-◌}
-use Rattle.serial_form.proofs.Copying.{SoFar, none_yet, one_more, as_long, all_there}
-use borrow.Author.Rules.{rules}
-use native.Mathlib.Omega.{arith}
+use Rattle.serial_form.proofs.Copying.{SoFar}
 use Rattle.serial_form.proofs.put.Given as goal
 
 abbrev pub invariant-loop-i : goal.invariant-loop-i

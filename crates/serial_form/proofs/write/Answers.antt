@@ -1,5 +1,4 @@
 use Rattle.serial_form.proofs.Answers.{writes}
-use borrow.Author.Rules.{rules}
 use Rattle.serial_form.proofs.write.Goals as goal
 
 pub returns : goal.returns

@@ -1,7 +1,6 @@
 -- By the line; each answer is a law of `Counting`.
 use mathlib.Core.Path.{sym, ◌∙◌}
 use Rattle.serial_lines.proofs.Counting.{by_counters, by_lost, by_ports}
-use borrow.Author.Rules.{rules}
 use Rattle.serial_lines.proofs.answer.Goals as goal
 
 pub returns-then-fits : goal.returns-then-fits

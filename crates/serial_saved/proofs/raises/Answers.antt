@@ -1,6 +1,5 @@
 -- The answer is a law of `Raising`.
 use Rattle.serial_saved.proofs.Raising.{as_raised}
-use borrow.Author.Rules.{rules}
 use Rattle.serial_saved.proofs.raises.Goals as goal
 
 pub returns : goal.returns

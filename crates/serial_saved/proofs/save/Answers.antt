@@ -1,6 +1,5 @@
 -- The answer is a law of `Bringing`.
 use Rattle.serial_saved.proofs.Bringing.{saves}
-use borrow.Author.Rules.{rules}
 use Rattle.serial_saved.proofs.save.Goals as goal
 
 pub returns : goal.returns

@@ -2,7 +2,6 @@
 use mathlib.Core.Path.{sym, ap, ◌∙◌}
 use Rattle.serial.specs.Port.{is_size}
 use Rattle.lines.proofs.Handing.{is_reset, is_clock, is_serial, is_none}
-use borrow.Author.Rules.{rules}
 use Rattle.lines.proofs.devices.named.Goals as goal
 
 pub returns-then-fits : goal.returns-then-fits

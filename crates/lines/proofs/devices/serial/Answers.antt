@@ -1,10 +1,6 @@
 -- The name, or a line of the serial port.
-use mathlib.Core.Path.{sym, ◌∙◌}
-use mathlib.Core.Bool.{true≢false, false≢true}
 use native.Mathlib.Omega.{arith}
-use Rattle.words.proofs.Putting.{both}
-use Rattle.lines.proofs.Handing.{name_short, of_size}
-use borrow.Author.Rules.{rules}
+use Rattle.lines.proofs.Handing.{name_short}
 use Rattle.lines.proofs.devices.serial.Goals as goal
 
 pub put-a-requires : goal.put-a-requires

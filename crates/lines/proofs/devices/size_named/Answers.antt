@@ -1,7 +1,6 @@
 -- Row after row of the table.
 use mathlib.Core.Path.{refl, ◌∙◌}
 use Rattle.lines.specs.Handing.{size_named}
-use borrow.Author.Rules.{rules}
 use Rattle.lines.proofs.devices.size_named.Goals as goal
 
 pub returns : goal.returns

@@ -1,6 +1,5 @@
 -- Each answer is a law of `Flushing`.
 use Rattle.serial.proofs.Flushing.{keeps_bytes, flushes_bytes}
-use borrow.Author.Rules.{rules}
 use Rattle.serial.proofs.fcr.write.Goals as goal
 
 pub returns-then-value-eq0 : goal.returns-then-value-eq0

@@ -1,7 +1,6 @@
 -- Each answer is a law of `Enabling`.
 use native.Mathlib.Omega.{arith}
-use Rattle.serial.proofs.Enabling.{kept_iir, writes_ier}
-use borrow.Author.Rules.{rules}
+use Rattle.serial.proofs.Enabling.{writes_ier}
 use Rattle.serial.proofs.ier.write.Goals as goal
 
 pub returns : goal.returns

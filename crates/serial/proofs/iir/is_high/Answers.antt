@@ -1,6 +1,5 @@
 -- The answer is a law of `Reading`.
 use Rattle.serial.proofs.Reading.{is_line}
-use borrow.Author.Rules.{rules}
 use Rattle.serial.proofs.iir.is_high.Goals as goal
 
 pub returns : goal.returns

@@ -1,7 +1,6 @@
 -- The answer is a law of `Reading`.
 use mathlib.Core.Path.{◌∙◌}
 use Rattle.serial.proofs.Reading.{identifies}
-use borrow.Author.Rules.{rules}
 use Rattle.serial.proofs.iir.read.Goals as goal
 
 pub returns : goal.returns

@@ -1,7 +1,5 @@
 -- The loop's invariant and its laws are of `Spares`.
-use Prim.Native.Nat.{◌-◌}
-use borrow.Author.Rules.{rules}
-use Rattle.serial.proofs.Spares.{ZeroUpTo, none_yet, one_more, all_zero, one_other}
+use Rattle.serial.proofs.Spares.{all_zero, one_other}
 use Rattle.serial.proofs.memory.are_spares_zero.Goals as goal
 
 pub returns-then-regs-i-ne0 : goal.returns-then-regs-i-ne0

@@ -1,7 +1,6 @@
 -- The loop's invariant and its laws are of `Spares`.
 use Prim.Native.Nat.{◌-◌}
-use borrow.Author.Rules.{rules}
-use Rattle.serial.proofs.Spares.{ZeroUpTo, none_yet, one_more, all_zero, one_other}
+use Rattle.serial.proofs.Spares.{ZeroUpTo}
 use Rattle.serial.proofs.memory.are_spares_zero.Given as goal
 
 abbrev pub invariant-loop-i : goal.invariant-loop-i

@@ -1,6 +1,5 @@
 -- Each answer is a law of `Leaves`.
-use Rattle.serial.proofs.Leaves.{none_left, some_left}
-use borrow.Author.Rules.{rules}
+use Rattle.serial.proofs.Leaves.{some_left}
 use Rattle.serial.proofs.receiver.lsr_after_read.Goals as goal
 
 pub returns-else-left-eq0 : goal.returns-else-left-eq0

@@ -1,6 +1,5 @@
 use Rattle.serial.specs.Layout.{port_of}
 use Rattle.serial.proofs.Reading.{reads_none, reads_first}
-use borrow.Author.Rules.{rules}
 use Rattle.serial.proofs.receiver.read_any_rbr.Goals as goal
 
 pub returns-then-n-eq0 : goal.returns-then-n-eq0

@@ -1,10 +1,7 @@
 -- Each answer is a law of `Reading`.
 use native.Mathlib.Omega.{arith}
-use Prim.Native.Nat.{◌≤◌}
-use lib.ListN.{get_or}
-use Rattle.serial.specs.Layout.{places, port_of}
+use Rattle.serial.specs.Layout.{port_of}
 use Rattle.serial.proofs.Reading.{reads_several, reads_last}
-use borrow.Author.Rules.{rules}
 use Rattle.serial.proofs.receiver.read_rbr.Goals as goal
 
 pub returns-then-n-eq1 : goal.returns-then-n-eq1

@@ -1,6 +1,5 @@
 -- The answer is a law of `Quiet`.
 use Rattle.serial.proofs.Quiet.{quiet_received}
-use borrow.Author.Rules.{rules}
 use Rattle.serial.proofs.receiver.receive_quietly.Goals as goal
 
 pub returns : goal.returns

@@ -2,9 +2,7 @@
 use native.Mathlib.Omega.{arith}
 use mathlib.Core.Path.{refl}
 use Rattle.serial.proofs.Looping.{loop_drops, loop_receives}
-use Rattle.serial.proofs.Sizes.{size_few}
 use Rattle.serial.proofs.Quiet.{quiet_emptied}
-use borrow.Author.Rules.{rules}
 use Rattle.serial.proofs.transmitter.loop_quietly.Goals as goal
 
 pub returns-then-size-n : goal.returns-then-size-n

@@ -2,7 +2,6 @@
 use native.Mathlib.Omega.{arith}
 use mathlib.Core.Path.{refl}
 use Rattle.serial.proofs.Looping.{loop_drops, loop_receives}
-use borrow.Author.Rules.{rules}
 use Rattle.serial.proofs.transmitter.write_loop.Goals as goal
 
 pub returns-then-size-n : goal.returns-then-size-n

@@ -3,7 +3,6 @@ use mathlib.Core.Path.{sym, ◌∙◌}
 use native.Mathlib.Omega.{arith}
 use Rattle.serial.specs.Layout.{port_of}
 use Rattle.serial.proofs.Sending.{loops, sends}
-use borrow.Author.Rules.{rules}
 use Rattle.serial.proofs.transmitter.write_thr.Goals as goal
 
 pub returns-then-is_loop : goal.returns-then-is_loop

@@ -1,7 +1,5 @@
 -- By the access; each answer is a law of `Answering`.
-use Rattle.serial_lines.proofs.Answering.{by_access, by_word, input_makes_none, restore_makes_none, written, read_from, entered, room_said, state_said, line_said, registers_brought, unknown}
-use mathlib.Core.Path.{refl}
-use borrow.Author.Rules.{rules}
+use Rattle.serial_lines.proofs.Answering.{by_access}
 use Rattle.serial_lines.proofs.access.answer.Goals as goal
 
 pub returns-in-InputBytes-clause-answers_port : goal.returns-in-InputBytes-clause-answers_port

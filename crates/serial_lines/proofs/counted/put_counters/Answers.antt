@@ -1,7 +1,6 @@
 -- The name, four numbers, the end of the line.
 use Rattle.counters.specs.Counters.{serial_of}
 use Rattle.words.proofs.Putting.{both}
-use borrow.Author.Rules.{rules}
 use Rattle.serial_lines.proofs.counted.put_counters.Goals as goal
 
 pub returns-clause-puts : goal.returns-clause-puts

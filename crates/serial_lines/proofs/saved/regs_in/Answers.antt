@@ -1,7 +1,5 @@
 -- Nine registers, one after the other, and what is spare.
 use Rattle.serial_lines.proofs.Saying.{nine}
-use mathlib.Core.Path.{refl}
-use borrow.Author.Rules.{rules}
 use Rattle.serial_lines.proofs.saved.regs_in.Goals as goal
 
 pub returns-clause-by_index : goal.returns-clause-by_index

@@ -1,6 +1,5 @@
 -- The answer is a law of `Saying`.
 use Rattle.serial_lines.proofs.Saying.{brings}
-use borrow.Author.Rules.{rules}
 use Rattle.serial_lines.proofs.saved.restore.Goals as goal
 
 pub returns-clause-brought : goal.returns-clause-brought

@@ -1,7 +1,6 @@
 -- Every element of a slice is a value of its type.
 use native.Mathlib.Omega.{arith}
 use Rattle.serial_saved.proofs.Testing.{bytes_below}
-use borrow.Author.Rules.{rules}
 use Rattle.serial_saved.proofs.reachable.all_bytes.Goals as goal
 
 pub returns : goal.returns

@@ -1,9 +1,7 @@
 -- Each answer is a law of `Testing`.
 use mathlib.Core.Path.{refl}
 use native.Mathlib.Omega.{arith}
-use borrow.Author.Tests.{not-true, not-false}
-use Rattle.serial_saved.proofs.Testing.{wide_ier, other_fcr, other_msr, other_lsr, other_iir, other_size, made_size, decided}
-use borrow.Author.Rules.{rules}
+use Rattle.serial_saved.proofs.Testing.{wide_ier, other_fcr, other_msr, other_lsr, other_iir, made_size, decided}
 use Rattle.serial_saved.proofs.reachable.is_reachable.Goals as goal
 
 pub returns-then-ier-ge16 : goal.returns-then-ier-ge16

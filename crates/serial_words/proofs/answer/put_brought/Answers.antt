@@ -1,6 +1,5 @@
 -- Each answer is a law of `Saying`.
-use Rattle.serial_words.proofs.Saying.{brought_none, reached, unreached}
-use borrow.Author.Rules.{rules}
+use Rattle.serial_words.proofs.Saying.{unreached}
 use Rattle.serial_words.proofs.answer.put_brought.Goals as goal
 
 pub returns-clause-puts : goal.returns-clause-puts

@@ -1,7 +1,6 @@
 -- Each answer is a law of `Lines`.
 use mathlib.Core.Path.{sym, ◌∙◌}
 use Rattle.serial_words.proofs.Lines.{is_write, is_read, is_input, is_bytes, is_room, is_state, is_line, is_saved}
-use borrow.Author.Rules.{rules}
 use Rattle.serial_words.proofs.line.parse.Goals as goal
 
 pub returns-then-fits : goal.returns-then-fits

@@ -1,7 +1,6 @@
 -- Each answer is a law of `Lines`.
 use mathlib.Core.Path.{sym, ◌∙◌}
 use Rattle.serial_words.proofs.Lines.{is_save, is_kept, is_registers, is_given, is_unknown}
-use borrow.Author.Rules.{rules}
 use Rattle.serial_words.proofs.line.parse_saved.Goals as goal
 
 pub returns-then-fits : goal.returns-then-fits

@@ -1,6 +1,5 @@
 -- The answer is a law of `Saying`.
 use Rattle.serial_words.proofs.Saying.{port_said}
-use borrow.Author.Rules.{rules}
 use Rattle.serial_words.proofs.port.put_port.Goals as goal
 
 pub returns-clause-puts : goal.returns-clause-puts

@@ -1,13 +1,10 @@
 -- Byte by byte.
-use Rattle.serial_words.proofs.Saying.{none_yet, one_more, all_there}
 use Rattle.words.specs.Put.{Puts}
 use Rattle.ring.specs.Ring.{queue}
 use Rattle.serial.specs.Layout.{places}
 use Rattle.serial_words.specs.Said.{bytes_say}
 use Prim.Native.Nat.{◌+◌, ◌-◌, ◌≤◌}
 use mathlib.Core.Path.{◌≡◌}
-use borrow.Author.Rules.{rules}
-use native.Mathlib.Omega.{arith}
 use Rattle.serial_words.proofs.port.put_ring.Given as goal
 
 abbrev pub invariant-loop-i : goal.invariant-loop-i
