@@ -242,8 +242,8 @@ def is_a_kit_that_has_changed_told_in_one_line():
 def axioms_status(said, trusted="`libc::read`", proved="rt: one proved\n"):
     """What tests/axioms thinks of one crate of which the prover said so, and `rt ci` that it is proved."""
     with tempfile.TemporaryDirectory() as folder:
-        files = {"crates.txt": "one staticlib: std\n", "docs/TRUSTED.md": trusted, "target/ci.log": proved, "target/one.said": said}
-        files["hosts/native"] = f"#!/bin/sh\necho {folder}/target/one.o\n"
+        files = {"crates.txt": "one staticlib: two\n", "docs/TRUSTED.md": trusted, "target/ci.log": proved, "target/one.said": said}
+        files["hosts/native"] = f"#!/bin/sh\necho {folder}/target/one.said\n"
         for name, text in files.items():
             path = os.path.join(folder, name)
             os.makedirs(os.path.dirname(path), exist_ok=True)
