@@ -9,7 +9,7 @@ use Rattle.clock_saved.specs.Reachable.{ReachedWords}
 use Rattle.clock_saved.specs.Saved.{restore_answer}
 use Rattle.clock_saved.proofs.Exact.{words_exact}
 use Rattle.clock_saved.proofs.Saving.{told_of_runs}
-use Rattle.clock_form.proofs.RoundTrip.{decode_encoded}
+use Rattle.clock_form.proofs.ByCalls.{decode_encoded}
 use Rattle.moved.specs.RealTimeClock.{Leaves, Arrives, Same}
 
 module _ {clock form clock' : List ℕ} (w : Words clock) (l : Leaves clock form) (a : Arrives form clock') where
