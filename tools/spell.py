@@ -26,8 +26,8 @@ USED = re.compile(r"^(?:ghost )?use ([^\s{;]+)\.\{([^}]*)\}", re.M)
 # What the toolchain calls the parts of a proof by hand.
 ALIAS = re.compile(r"^use [^\s{]+ as (\S+)", re.M)
 MADE = re.compile(r"^(\S+) : tie\.|^(\S+)[-_]spec : ", re.M)
-# A lemma that has the name of a field elsewhere gets the ending in its own crate alone.
-WITHIN = [("serial_form", "too_many")]
+# A lemma that has a name which another name in its own crate gets has the ending there alone.
+WITHIN = [("serial_form", "too_many"), ("histories", "goes_on")]
 # Names that only the left sides of equations bind.
 PATTERNS = {"isValid", "atRbr", "atThr", "atFcr"}
 KEYWORDS = {"where", "let", "in", "elim", "as", "record", "data", "use", "module", "abbrev", "unfolding", "pub", "="}

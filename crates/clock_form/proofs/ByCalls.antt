@@ -1,24 +1,18 @@
 -- Writing and reading are inverse, by the calls.
 use mathlib.Core.Path.{◌≡◌, refl, sym, ap, ◌∙◌}
 use mathlib.Core.Bool.{true, false}
-use mathlib.Core.List.{List, [], ◌∷◌, ◌++◌}
-use Prim.Native.Nat.{ℕ, zero, suc, ◌+◌, ◌^◌, ◌≤◌, ◌<◌}
+use mathlib.Core.List.{List, ◌++◌}
+use Prim.Native.Nat.{ℕ, ◌≤◌}
 use native.Mathlib.Omega.{arith}
-use lib.Dec.{lit<}
-use lib.ListN.{length, get_or, take, drop, length-drop, take-append-drop, drop_of_length-le}
-use lib.Seq.{drop-drop, length-take-le, take_at}
+use lib.ListN.{length, take, drop}
+use lib.Seq.{take_at}
 use borrow.Author.Tests.{le-leb}
-use Rattle.common.specs.Bytes.{bytes_of, value_of, Bytes}
-use Rattle.common.proofs.Bytes.{bytes_take, bytes_drop, value_of_bytes, value_small, bytes_of_value}
-use Rattle.clock.specs.Layout.{Words, spare_of, spare_is_zero}
-use Rattle.clock.proofs.Stores.{eight_are}
-use Rattle.clock.proofs.Spare.{spare_zero}
-use Rattle.clock_form.specs.Form.{current, form_length, bytes_of_words, form_of, Read, refused, reads}
-use Rattle.clock_form.specs.Form.{version_in, word_at, words_in, read_form}
+use Rattle.common.specs.Bytes.{Bytes}
+use Rattle.clock.specs.Layout.{Words, spare_is_zero}
+use Rattle.clock_form.specs.Form.{form_length, form_of, Read, refused, reads}
+use Rattle.clock_form.specs.Form.{read_form}
 use Rattle.clock_form.specs.Calls.{answer_of, words_after, Encodes, Decodes}
-use Rattle.clock_form.specs.Outcomes.{Known, Comes, whole, ReadFrom}
 use Rattle.clock_form.proofs.Numbers.{form_length_lem}
-use Rattle.clock_form.proofs.Reading.{only_so, comes}
 use Rattle.clock_form.proofs.RoundTrip.{read_written, written_read}
 
 -- No spare word is dropped: the writer refuses it, and nothing is written.

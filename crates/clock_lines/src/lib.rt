@@ -24,7 +24,7 @@ use words::{Block, decimal};
 
 // The clock and the host's time, the clock that was saved last, if `keeps` says that one was, and what
 // was counted since the clock was named.
-#[derive(Drop)]
+#[derive(Clone, Copy)]
 pub struct Clocks {
     pub clock: Clock,
     pub time: u64,
@@ -34,7 +34,7 @@ pub struct Clocks {
 }
 
 // The clocks after a line, and how much of `out` is used.
-#[derive(Drop)]
+#[derive(Clone, Copy)]
 pub struct Said {
     pub clocks: Clocks,
     pub put: usize,

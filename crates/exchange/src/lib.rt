@@ -41,7 +41,7 @@ fn write_out<O: Write>(output: &mut O, waiting: &[u8]) -> Result<(), Error> {
 }
 
 // What a read brought.
-#[derive(Drop)]
+#[derive(Clone, Copy)]
 enum Came {
     Bytes(usize),
     End,
@@ -81,7 +81,7 @@ fn read_after<I: Read, E: Eprint>(input: &mut I, errors: &E, held: &mut [u8], en
 }
 
 // A state, and whether there is more to do.
-#[derive(Drop)]
+#[derive(Clone, Copy)]
 pub struct Next {
     pub state: State,
     pub more: bool,

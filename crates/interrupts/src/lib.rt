@@ -14,7 +14,7 @@ pub const NONE_PENDING: u8 = 0x01;
 
 // What is to be stored in IIR, and how often the interrupt is to be raised. Where nothing changes
 // nothing need be stored.
-#[derive(Drop)]
+#[derive(Clone, Copy)]
 pub struct Told {
     pub iir: u8,
     pub raises: u32,

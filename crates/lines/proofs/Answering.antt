@@ -224,7 +224,7 @@ module _ (held : List ℕ) (from seen end : ℕ) (started : from ≤ seen) (furt
 
     by_length : end ≤ stop → (b : Bool) → leb (end - from) longest ≡ b → Cutting refl w passes line r
     by_length h true f =
-        subst (λ (c : Cut). Cutting refl w passes line c) (cutting.goes_on_lem held from seen end passes refl h (leb-true _ _ f) ∙ sym q)
+        subst (λ (c : Cut). Cutting refl w passes line c) (cutting.goes_on held from seen end passes refl h (leb-true _ _ f) ∙ sym q)
         (on refl w passes line l m h)
     by_length h false f =
         let n = leb-false (end - from) longest f in

@@ -84,16 +84,16 @@ pub turn_goes_on : {held : List ℕ} {s s' : State} {w w' w'' : Devices} {out ou
 turn_goes_on {held} {s} {s'} {w} {w'} {w''} {out} {out'} {out''} {said} {end} {put} {r} t started further fits c q d p = record {
   said = t.said ++ said;
   puts = both t.puts p;
-  goes = λ line h. goes_on_lem line (t.goes line h);
-  onward = let x = t.onward in let y = c.goes_on_lem in omega arith;
+  goes = λ line h. goes_on line (t.goes line h);
+  onward = let x = t.onward in let y = c.goes_on in omega arith;
   end = t.end;
   ended = t.ended;
 } where
-  goes_on_lem : (line : List ℕ) → Goes held s w line t.said s' w' → Goes held s w line (t.said ++ said) (after s' r put) w''
-  goes_on_lem line g =
+  goes_on : (line : List ℕ) → Goes held s w line t.said s' w' → Goes held s w line (t.said ++ said) (after s' r put) w''
+  goes_on line g =
       let step = cut held s'.from s'.seen end started further fits w' s'.passes g.line' g.stands.whole g.stands.long r q c.stops said w'' d in
       let x = t.onward in
-      let y = c.goes_on_lem in
+      let y = c.goes_on in
       record {
         line' = step.line';
         stands = record { whole = step.whole; long = step.long };

@@ -25,7 +25,7 @@ pub enum Device {
 }
 
 // The current device, and the devices that have a state, each with the one that was saved last.
-#[derive(Drop)]
+#[derive(Clone, Copy)]
 pub struct Devices {
     pub device: Device,
     pub clocks: Clocks,
@@ -33,7 +33,7 @@ pub struct Devices {
 }
 
 // Who answers a line.
-#[derive(Drop)]
+#[derive(Clone, Copy)]
 pub enum Whose {
     // Nobody: it is passed over.
     Nobodys,
@@ -46,7 +46,7 @@ pub enum Whose {
 
 // What is to be done with a line: `fresh` says that it names the device, which is then the current
 // one.
-#[derive(Drop)]
+#[derive(Clone, Copy)]
 pub struct Task {
     pub whose: Whose,
     pub fresh: bool,

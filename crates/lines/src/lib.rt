@@ -21,7 +21,7 @@ use words::Block;
 const ENOUGH: usize = 61440;
 
 // What a turn leaves.
-#[derive(Drop)]
+#[derive(Clone, Copy)]
 pub struct Turn {
     pub devices: Devices,
     pub state: State,

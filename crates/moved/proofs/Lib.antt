@@ -1,2 +1,3 @@
 pub mod SerialPort
 pub mod RealTimeClock
+pub mod ReachedClock

@@ -5,16 +5,12 @@ use mathlib.Core.List.{List}
 use Prim.Native.Nat.{ℕ}
 use Rattle.clock.specs.Layout.{Words, clock_of, spare_of, spare_is_zero}
 use Rattle.clock.proofs.Words.{same_for_ever, spare_stays}
-use Rattle.clock_saved.specs.Reachable.{ReachedWords}
-use Rattle.clock_saved.specs.Saved.{restore_answer}
-use Rattle.clock_saved.proofs.Exact.{words_exact}
-use Rattle.clock_saved.proofs.Saving.{told_of_runs}
 use Rattle.clock_form.proofs.ByCalls.{decode_encoded}
 use Rattle.moved.specs.RealTimeClock.{Leaves, Arrives, Same}
 
 module _ {clock form clock' : List ℕ} (w : Words clock) (l : Leaves clock form) (a : Arrives form clock') where
   -- what the first host saved is read back, if its spare words are 0
-  back : spare_is_zero clock ≡ true → (a.answer ≡ 0) × (a.saved ≡ l.saved)
+  pub back : spare_is_zero clock ≡ true → (a.answer ≡ 0) × (a.saved ≡ l.saved)
   back z =
       let b = decode_encoded (rw l.saves w) (ap spare_is_zero l.saves ∙ z) l.room l.encodes (rw l.bytes at a.decodes) in
       (b.1, b.2)
@@ -30,9 +26,3 @@ module _ {clock form clock' : List ℕ} (w : Words clock) (l : Leaves clock form
             let k = same_for_ever (ap clock_of same) there here in
             (k.0, (k.1, spare_stays there ∙ ap spare_of same ∙ sym (spare_stays here)));
       }
-
-  -- So it is with every clock that calls on a fresh one reach, and the second host is told that they do.
-  pub moved_reached : ReachedWords clock → Same clock form clock' a × (a.word ≡ restore_answer true)
-  moved_reached k =
-      let z = ((words_exact clock).1 k).spare in
-      (moved z, told_of_runs ((back z).1 ∙ l.saves) a.restores k)

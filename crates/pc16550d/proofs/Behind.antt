@@ -35,6 +35,7 @@ use Rattle.pc16550d.proofs.OnLine.{InputAgrees, input_complete}
 use Rattle.pc16550d.proofs.Keeping.{keeps, fresh_sound}
 use Rattle.pc16550d.proofs.Alongside.{runs}
 use Rattle.pc16550d.proofs.Computing.{computing}
+use Rattle.pc16550d.proofs.Following.{follows_first}
 
 -- ---- A call: it looks alike, and the chip follows on
 record Goes (before : Chip) (bits : ℕ → ℕ) (d : Done) (c : chip.Out) : Type 0 where
@@ -403,9 +404,9 @@ module _ (p : Port) (f : Bool) (t m : ℕ) (small : m < 0x10) (quiet : modem_sta
   one_goes k (input bytes) e = input_goes bytes e (input_complete p k bytes)
 
 -- ---- Runs
-goes_on_lem : (p : Port) → Sound p → (c : Chip) → Follows p c → (o : Op) → careful c o ≡ true
+goes_on : (p : Port) → Sound p → (c : Chip) → Follows p c → (o : Op) → careful c o ≡ true
     → Goes c (compared_at c o) (device_does p o) (chip_does c o)
-goes_on_lem p k c w o =
+goes_on p k c w o =
     let f = c.receiver.fifos in
     let t = c.receiver.trigger in
     let m = c.modem.changes in
@@ -418,7 +419,7 @@ unfolding careful_run
 behind p k c w [] e = tt
 behind p k c w (o ∷ os) e =
     let b = both_true (careful c o) (careful_run (chip_does c o).chip os) e in
-    let g = goes_on_lem p k c w o b.0 in
+    let g = goes_on p k c w o b.0 in
     (g.alike, behind (device_does p o).port (keeps p k o) (chip_does c o).chip g.next os b.1)
 
 -- After it the chip still follows.
@@ -428,13 +429,8 @@ unfolding careful_run
 follows_on p k c w [] e = w
 follows_on p k c w (o ∷ os) e =
     let b = both_true (careful c o) (careful_run (chip_does c o).chip os) e in
-    let g = goes_on_lem p k c w o b.0 in
+    let g = goes_on p k c w o b.0 in
     follows_on (device_does p o).port (keeps p k o) (chip_does c o).chip g.next os b.1
-
--- The chip that a port is follows it.
-pub follows_first : (p : Port) → Follows p (chip_of p)
-unfolding chip_of
-follows_first p = record { same = refl; four = lit< tt; quiet = refl }
 
 -- ---- What is asked of the driver is needed
 

@@ -16,4 +16,5 @@ pub mod Witness
 pub mod Pinned
 pub mod RunTest
 pub mod Useful
+pub mod Following
 pub mod Behind

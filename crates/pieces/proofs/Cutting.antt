@@ -42,9 +42,9 @@ module _ (all : List ℕ) (from seen end : ℕ) (passes : Bool) {stop : ℕ} (e 
   unfolding cut_of
   ends_here h k = rw (k, ← e, lt-ltb stop end h) refl
 
-  pub goes_on_lem : end ≤ stop → end - from ≤ longest → record { kind = Silent; stop = stop; from = from; seen = end; passes = passes } ≡ cut_of all from seen end passes
+  pub goes_on : end ≤ stop → end - from ≤ longest → record { kind = Silent; stop = stop; from = from; seen = end; passes = passes } ≡ cut_of all from seen end passes
   unfolding cut_of
-  goes_on_lem h l = rw (← e, le-ltb stop end h, le-leb (end - from) longest l) refl
+  goes_on h l = rw (← e, le-ltb stop end h, le-leb (end - from) longest l) refl
 
   pub runs_over : end ≤ stop → longest < end - from → {kind : Kind} → kind ≡ kind_of (bytes_from from end all) passes
       → record { kind = kind; stop = stop; from = end; seen = end; passes = true } ≡ cut_of all from seen end passes

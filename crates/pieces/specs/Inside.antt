@@ -10,7 +10,7 @@ use Rattle.pieces.specs.declared.cut.Cut.{Cut}
 pub record Cuts (from seen end : ℕ) (r : Cut) : Type 0 where
   pub starts : from ≤ r.stop
   pub stops : r.stop ≤ end
-  pub goes_on_lem : seen < r.seen
+  pub goes_on : seen < r.seen
   pub searched : r.seen ≤ end
   pub started : r.from ≤ r.seen
   pub short : r.seen ≤ r.from + 8192

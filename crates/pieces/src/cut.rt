@@ -8,7 +8,7 @@ ghost use Rattle.pieces.specs.Inside.{Cuts};
 const LONGEST: usize = 8192;
 
 // What is to be done with a line.
-#[derive(Drop)]
+#[derive(Clone, Copy)]
 pub enum Kind {
     // Pass it over: it is empty, a comment, not all here, or the last of one that was too long.
     Silent,
@@ -20,7 +20,7 @@ pub enum Kind {
 
 // The current line ends at `stop`, and the next one starts at `from` and is searched up to `seen`;
 // `passes` says that it is the rest of one that was too long.
-#[derive(Drop)]
+#[derive(Clone, Copy)]
 pub struct Cut {
     pub kind: Kind,
     pub stop: usize,

@@ -58,16 +58,16 @@ sum_goes_on up down (wraps e f) a b c d = omega arith
 differs : {A : Type 0} {f g : Bool} → f ≡ true → g ≡ false → f ≡ g → A
 differs a b e = absurd (true≢false (sym a ∙ e ∙ b))
 
-goes_on_lem : {n m up down v w : ℕ} {f g : Bool} → Next n m → Shows n up down f v → Shows m up down g w → f ≡ g → w ≡ (v + 1) % 2 ^ 32
-goes_on_lem x (inside f v a b) (inside g w c d) e = rw (v, w) (sum_goes_on _ _ x a b c d)
-goes_on_lem x (inside f v a b) (under g w c) e = differs f g e
-goes_on_lem x (inside f v a b) (over g w c) e = differs f g e
-goes_on_lem x (under f v a) (inside g w c d) e = differs g f (sym e)
-goes_on_lem x (under f v a) (under g w c) e = rw (v, w) (host_goes_on x)
-goes_on_lem x (under f v a) (over g w c) e = rw (v, w) (host_goes_on x)
-goes_on_lem x (over f v a) (inside g w c d) e = differs g f (sym e)
-goes_on_lem x (over f v a) (under g w c) e = rw (v, w) (host_goes_on x)
-goes_on_lem x (over f v a) (over g w c) e = rw (v, w) (host_goes_on x)
+goes_on : {n m up down v w : ℕ} {f g : Bool} → Next n m → Shows n up down f v → Shows m up down g w → f ≡ g → w ≡ (v + 1) % 2 ^ 32
+goes_on x (inside f v a b) (inside g w c d) e = rw (v, w) (sum_goes_on _ _ x a b c d)
+goes_on x (inside f v a b) (under g w c) e = differs f g e
+goes_on x (inside f v a b) (over g w c) e = differs f g e
+goes_on x (under f v a) (inside g w c d) e = differs g f (sym e)
+goes_on x (under f v a) (under g w c) e = rw (v, w) (host_goes_on x)
+goes_on x (under f v a) (over g w c) e = rw (v, w) (host_goes_on x)
+goes_on x (over f v a) (inside g w c d) e = differs g f (sym e)
+goes_on x (over f v a) (under g w c) e = rw (v, w) (host_goes_on x)
+goes_on x (over f v a) (over g w c) e = rw (v, w) (host_goes_on x)
 
 -- ---- Elsewhere it does not: from the sum to the host's time, and back
 
@@ -109,8 +109,8 @@ module _ (time : ℕ) where
   m = (time + 1) % 2 ^ 32
 
   pub shown_goes_on : (ahead : ℤ) → fits32 (sum n ahead) ≡ fits32 (sum m ahead) → shown m ahead ≡ (shown n ahead + 1) % 2 ^ 32
-  shown_goes_on (pos k) = goes_on_lem (next_second time) (shows_up n k (dec_lt _ _)) (shows_up m k (dec_lt _ _))
-  shown_goes_on (negsuc k) = goes_on_lem (next_second time) (shows_down n k (omega arith) (dec_lt _ _)) (shows_down m k (omega arith) (dec_lt _ _))
+  shown_goes_on (pos k) = goes_on (next_second time) (shows_up n k (dec_lt _ _)) (shows_up m k (dec_lt _ _))
+  shown_goes_on (negsuc k) = goes_on (next_second time) (shows_down n k (omega arith) (dec_lt _ _)) (shows_down m k (omega arith) (dec_lt _ _))
 
   pub shown_leaps : (ahead : ℤ) → (fits32 (sum n ahead) ≡ fits32 (sum m ahead) → ⊥) → shown m ahead ≡ (shown n ahead + 1) % 2 ^ 32 → ⊥
   shown_leaps (pos k) = leaps (next_second time) (shows_up n k (dec_lt _ _)) (shows_up m k (dec_lt _ _))

@@ -62,12 +62,12 @@ playing_none p ops inputs answers h =
 
 -- what calls for the operations that are left would leave, calls for the whole run leave
 pub record Through (regs₀ pos₀ ring₀ ops inputs regs pos ring answers : List ℕ) (i from : ℕ) : Type 0 where
-  pub goes_on_lem : (os : List Op) → left ops inputs i from ≡ asks os → (regs' pos' ring' rs : List ℕ) → Calls regs pos ring os regs' pos' ring' rs
+  pub goes_on : (os : List Op) → left ops inputs i from ≡ asks os → (regs' pos' ring' rs : List ℕ) → Calls regs pos ring os regs' pos' ring' rs
       → (all : List Op) → decode ops inputs ≡ asks all → Calls regs₀ pos₀ ring₀ all regs' pos' ring' (take i answers ++ rs)
 
 pub through_none : (regs pos ring ops inputs answers : List ℕ) → Through regs pos ring ops inputs regs pos ring answers 0 0
 through_none regs pos ring ops inputs answers = record {
-  goes_on_lem = λ os e regs' pos' ring' rs c all f.
+  goes_on = λ os e regs' pos' ring' rs c all f.
       let same : os ≡ all = cc in subst (λ (l : List Op). Calls regs pos ring l regs' pos' ring' rs) same c;
 }
 
@@ -132,9 +132,9 @@ module _ (p : Port) (ops inputs answers : List ℕ) (p' : Port) (answers' : List
       let o = op_at ops inputs (3 * i) from in
       let l : i < length answers' = omega (arith, s.long) in
       record {
-        goes_on_lem = λ os e regs' pos' ring' rs c all f.
+        goes_on = λ os e regs' pos' ring' rs c all f.
             subst (λ (ws : List ℕ). Calls regs₀ pos₀ ring₀ all regs' pos' ring' ws) (word_more answers' i w rs l)
-            (t.goes_on_lem (o ∷ os) (onwards ∙ ap (before o) e) regs' pos' ring' (w ∷ rs) (then a c) all f);
+            (t.goes_on (o ∷ os) (onwards ∙ ap (before o) e) regs' pos' ring' (w ∷ rs) (then a c) all f);
       }
 
   pub through_next : {regs₀ pos₀ ring₀ regs pos ring regs₁ pos₁ ring₁ : List ℕ} (w n : ℕ) → i < length answers → n ≡ takes_at ops (3 * i)
@@ -180,7 +180,7 @@ module _ (p : Port) (ops inputs answers : List ℕ) (p' : Port) (answers' : List
       → Calls regs₀ pos₀ ring₀ os regs pos ring (take (length os) answers')
   through_all {regs₀} {pos₀} {ring₀} {regs} {pos} {ring} t =
       subst (λ (n : ℕ). Calls regs₀ pos₀ ring₀ os regs pos ring (take n answers')) as_many
-      (subst (λ (ws : List ℕ). Calls regs₀ pos₀ ring₀ os regs pos ring ws) (append-nil (take i answers')) (t.goes_on_lem [] none_left regs pos ring [] none os e))
+      (subst (λ (ws : List ℕ). Calls regs₀ pos₀ ring₀ os regs pos ring ws) (append-nil (take i answers')) (t.goes_on [] none_left regs pos ring [] none os e))
 
 -- ---- Calls one after another
 

@@ -14,12 +14,12 @@ use Rattle.lines.specs.declared.Turn.{Turn}
 pub begins : {held out : List ℕ} {t : Turn} → First t.devices → t.state ≡ start_of → Ran held out t
 begins f e = record { input = []; written = []; runs = begun f e }
 
-pub goes_on_lem : {held held' out out' : List ℕ} {t t' : Turn} {s : State} → Ran held out t → Exchanged held t.state held' s
+pub goes_on : {held held' out out' : List ℕ} {t t' : Turn} {s : State} → Ran held out t → Exchanged held t.state held' s
     → Sound t'.state
     → Answered t'.state
     → Turns held' s t.devices out out' t'.state t'.devices
     → Ran held' out' t'
-goes_on_lem {held} {held'} {out} {out'} {t} {t'} {s} r x sound answered turns = by t.state.full refl where
+goes_on {held} {held'} {out} {out'} {t} {t'} {s} r x sound answered turns = by t.state.full refl where
   answering : Answering held' s t.devices out out' t'
   answering = record { sound = sound; answered = answered; turns = turns }
 

@@ -19,7 +19,7 @@ use words::decimal::put_decimal;
 use words::put::{put, put_byte};
 
 // How much of `out` is used after an access, and the word that the call answered.
-#[derive(Drop)]
+#[derive(Clone, Copy)]
 pub struct Done {
     pub put: usize,
     pub word: u32,

@@ -110,9 +110,9 @@ pub refuses : {o : Read} (reason : Reason) (saved waiting : List ℕ) → o ≡ 
     → Decodes o saved waiting saved waiting (refusal_word reason)
 refuses reason saved waiting e = rw e (record { answer = refl; registers = refl; bytes = refl })
 
-pub goes_on_lem : {o o' : Read} {saved waiting saved' waiting' : List ℕ} {r : ℕ} → o ≡ o' → Decodes o' saved waiting saved' waiting' r
+pub goes_on : {o o' : Read} {saved waiting saved' waiting' : List ℕ} {r : ℕ} → o ≡ o' → Decodes o' saved waiting saved' waiting' r
     → Decodes o saved waiting saved' waiting' r
-goes_on_lem e d = rw e d
+goes_on e d = rw e d
 
 module _ (registers : List ℕ) (n : ℕ) (bytes saved waiting : List ℕ) {saved' waiting' : List ℕ} where
   pub accepts : n ≤ size_of registers → length bytes ≡ n → length registers ≡ 16 → length saved ≡ 16 → length waiting ≡ places

@@ -23,7 +23,7 @@ use words::pattern::fits;
 
 // The serial port, in `regs`, `pos` and `ring`, and the one that was saved last: its registers, its
 // waiting bytes, and how many there are, or more than `PLACES` where none was saved yet.
-#[derive(Drop)]
+#[derive(Clone, Copy)]
 pub struct Held {
     pub regs: Regs,
     pub pos: Pos,
@@ -34,14 +34,14 @@ pub struct Held {
 }
 
 // The ports, and what was counted since the port was named.
-#[derive(Drop)]
+#[derive(Clone, Copy)]
 pub struct Ports {
     pub held: Held,
     pub counters: SerialCounters,
 }
 
 // The ports after a line, and how much of `out` is used.
-#[derive(Drop)]
+#[derive(Clone, Copy)]
 pub struct Said {
     pub ports: Ports,
     pub put: usize,
@@ -105,7 +105,7 @@ pub fn answer(line: &[u8], ports: Ports, out: &mut Block, at: usize) -> Said
 }
 
 // What a line about ports leaves: they, how much of `out` is used, and the word of an access.
-#[derive(Drop)]
+#[derive(Clone, Copy)]
 struct Answered {
     held: Held,
     put: usize,

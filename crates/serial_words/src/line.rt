@@ -5,7 +5,7 @@ ghost use Rattle.serial_words.specs.Lines.{line_of, saved_line_of};
 use words::hex::byte_at;
 use words::pattern::{begins, fits};
 
-#[derive(Drop)]
+#[derive(Clone, Copy)]
 pub enum Line {
     // `save`.
     Save,
@@ -15,7 +15,7 @@ pub enum Line {
 }
 
 // What speaks of the port alone, and of none that was saved.
-#[derive(Drop)]
+#[derive(Clone, Copy)]
 pub enum Access {
     Write(u8, u8),
     Read(u8),

@@ -59,9 +59,9 @@ module _ (word : List ℕ) (i n : ℕ) where
   pub fails : i < length word → longer_by n (get_or word i 0) ≡ Bad → longer (drop i word) (Is n) ≡ Bad
   fails h e = along h ∙ rw e (stays_bad (drop (i + 1) word))
 
-  pub goes_on_lem : (m : ℕ) → i < length word → longer_by n (get_or word i 0) ≡ Is m
+  pub goes_on : (m : ℕ) → i < length word → longer_by n (get_or word i 0) ≡ Is m
       → longer (drop i word) (Is n) ≡ longer (drop (i + 1) word) (Is m)
-  goes_on_lem m h e = along h ∙ rw e
+  goes_on m h e = along h ∙ rw e
 
   pub ends : length word ≤ i → longer (drop i word) (Is n) ≡ Is n
   unfolding longer

@@ -43,9 +43,9 @@ module _ (pattern line : List ℕ) (i : ℕ) where
   fails p l e = along p l ∙ rw e
 
   -- one that it stands for
-  pub goes_on_lem : i < length pattern → i < length line → stands_for (get_or pattern i 0) (get_or line i 0) ≡ true
+  pub goes_on : i < length pattern → i < length line → stands_for (get_or pattern i 0) (get_or line i 0) ≡ true
       → fits_of (drop i pattern) (drop i line) ≡ fits_of (drop (i + 1) pattern) (drop (i + 1) line)
-  goes_on_lem p l e = along p l ∙ rw e
+  goes_on p l e = along p l ∙ rw e
 
   -- the end of both
   pub ends : length pattern ≤ i → length line ≤ i → fits_of (drop i pattern) (drop i line) ≡ true

@@ -7,7 +7,7 @@ use crate::Block;
 use crate::put::put;
 
 // What a word says, as a number of 64 bits.
-#[derive(Drop)]
+#[derive(Clone, Copy)]
 pub enum Number {
     Is(u64),
     Bad,

@@ -37,7 +37,7 @@ pub fn byte_at(line: &[u8], i: usize) -> u8
 }
 
 // How many bytes digits make.
-#[derive(Drop)]
+#[derive(Clone, Copy)]
 pub enum Bytes {
     Are(usize),
     Bad,

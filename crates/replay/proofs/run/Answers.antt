@@ -1,6 +1,6 @@
 -- Each turn of the program is a turn of a run.
 use borrow.Author.Tests.{not-false}
-use Rattle.replay.proofs.Turns.{begins, goes_on_lem}
+use Rattle.replay.proofs.Turns.{begins, goes_on}
 use Rattle.replay.proofs.run.Goals as goal
 
 pub loop-turns-init : goal.loop-turns-init
@@ -15,5 +15,5 @@ loop-turns-preserved g c =
     let answered = c.answer-turn.ensures in (
       answered.sound,
       answered.answered,
-      goes_on_lem c.loop-turns.invariant.2 (c.exchange-next.ensures.exchanged (not-false _ c.if-not-next.false)) answered.sound answered.answered answered.turns,
+      goes_on c.loop-turns.invariant.2 (c.exchange-next.ensures.exchanged (not-false _ c.if-not-next.false)) answered.sound answered.answered answered.turns,
     )

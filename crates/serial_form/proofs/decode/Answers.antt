@@ -4,7 +4,7 @@ use Rattle.common.specs.Forms.{too_short, version}
 use Rattle.serial_form.specs.Form.{version2, version3, number_of}
 use Rattle.serial_form.proofs.Reading.{no_version_lem, known_version, other_version_lem, version_found}
 use Rattle.serial_form.proofs.RoundTrip.{neither}
-use Rattle.serial_form.proofs.Answers.{refuses, goes_on_lem}
+use Rattle.serial_form.proofs.Answers.{refuses, goes_on}
 use Rattle.serial_form.proofs.decode.Goals as goal
 
 pub returns-then-form-lt-REGISTERS : goal.returns-then-form-lt-REGISTERS
@@ -13,12 +13,12 @@ returns-then-form-lt-REGISTERS c = refuses too_short _ _ (no_version_lem _ c.if-
 pub returns-then-version-eq-CURRENT : goal.returns-then-version-eq-CURRENT
 unfolding number_of
 returns-then-version-eq-CURRENT c =
-    goes_on_lem (known_version ((c.args.form.now)) version3 ((omega arith)) (sym ((version_found ((c.args.form.now)) ((omega arith)) c.number-version.ensures)) ∙ c.if-version-eq-CURRENT.true)) c.decode_version_3.ensures
+    goes_on (known_version ((c.args.form.now)) version3 ((omega arith)) (sym ((version_found ((c.args.form.now)) ((omega arith)) c.number-version.ensures)) ∙ c.if-version-eq-CURRENT.true)) c.decode_version_3.ensures
 
 pub returns-then-version-eq-BEFORE : goal.returns-then-version-eq-BEFORE
 unfolding number_of
 returns-then-version-eq-BEFORE c =
-    goes_on_lem (known_version ((c.args.form.now)) version2 ((omega arith)) (sym ((version_found ((c.args.form.now)) ((omega arith)) c.number-version.ensures)) ∙ c.if-version-eq-BEFORE.true)) c.decode_version_2.ensures
+    goes_on (known_version ((c.args.form.now)) version2 ((omega arith)) (sym ((version_found ((c.args.form.now)) ((omega arith)) c.number-version.ensures)) ∙ c.if-version-eq-BEFORE.true)) c.decode_version_2.ensures
 
 pub returns : goal.returns
 unfolding number_of

@@ -1,5 +1,5 @@
 -- Each answer is a law of `Cutting`.
-use Rattle.pieces.proofs.Cutting.{ends_here, goes_on_lem, runs_over}
+use Rattle.pieces.proofs.Cutting.{ends_here, goes_on, runs_over}
 use Rattle.pieces.proofs.cut.next_line.Goals as goal
 
 pub returns-then-stop-end-clause-value : goal.returns-then-stop-end-clause-value
@@ -10,7 +10,7 @@ returns-then-stop-end-clause-value c =
 pub returns-then-end-from-le-LONGEST-clause-value : goal.returns-then-end-from-le-LONGEST-clause-value
 returns-then-end-from-le-LONGEST-clause-value c =
     let a = c.args in
-    goes_on_lem a.all.now a.from a.seen a.end a.passes c.find-stop.ensures.place c.if-stop-end.false c.if-end-from-le-LONGEST.true
+    goes_on a.all.now a.from a.seen a.end a.passes c.find-stop.ensures.place c.if-stop-end.false c.if-end-from-le-LONGEST.true
 
 pub returns-clause-value : goal.returns-clause-value
 returns-clause-value c =

@@ -2,7 +2,7 @@
 use mathlib.Core.Path.{sym, ◌∙◌}
 use borrow.Author.Rules.{rules}
 use native.Mathlib.Omega.{arith}
-use Rattle.words.proofs.Decimals.{no_digits, some_digits, fails, goes_on_lem, ends}
+use Rattle.words.proofs.Decimals.{no_digits, some_digits, fails, goes_on, ends}
 use Rattle.words.proofs.decimal.parse.Goals as goal
 
 pub returns-then-word-eq0 : goal.returns-then-word-eq0
@@ -15,7 +15,7 @@ pub returns-in_default : goal.returns-in_default
 returns-in_default c = sym (c.loop-i.invariant.2 ∙ fails _ c.loop-i.i _ (omega arith) (sym c.longer_by.ensures ∙ c.in_default.is))
 
 pub loop-i-preserved : goal.loop-i-preserved
-loop-i-preserved c = (search rules, search rules, c.loop-i.invariant.2 ∙ goes_on_lem _ c.loop-i.i _ _ (omega arith) (sym c.longer_by.ensures ∙ c.in-Is.is))
+loop-i-preserved c = (search rules, search rules, c.loop-i.invariant.2 ∙ goes_on _ c.loop-i.i _ _ (omega arith) (sym c.longer_by.ensures ∙ c.in-Is.is))
 
 pub returns : goal.returns
 returns c = sym (c.loop-i.invariant.2 ∙ ends _ c.loop-i.i _ (omega arith))
