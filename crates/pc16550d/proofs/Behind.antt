@@ -35,7 +35,7 @@ use Rattle.pc16550d.proofs.OnLine.{InputAgrees, input_complete}
 use Rattle.pc16550d.proofs.Keeping.{keeps, fresh_sound}
 use Rattle.pc16550d.proofs.Alongside.{runs}
 use Rattle.pc16550d.proofs.Computing.{computing}
-use Rattle.pc16550d.proofs.Following.{follows_first}
+use Rattle.pc16550d.proofs.Following.{follows_itself}
 
 -- ---- A call: it looks alike, and the chip follows on
 record Goes (before : Chip) (bits : ℕ → ℕ) (d : Done) (c : chip.Out) : Type 0 where
@@ -432,6 +432,10 @@ follows_on p k c w (o ∷ os) e =
     let g = goes_on p k c w o b.0 in
     follows_on (device_does p o).port (keeps p k o) (chip_does c o).chip g.next os b.1
 
+-- The chip that a port is follows it.
+pub follows_first : (p : Port) → Follows p (chip_of p)
+follows_first = follows_itself
+
 -- ---- What is asked of the driver is needed
 
 -- From the fresh device, a run that does not look alike.
@@ -479,9 +483,9 @@ unfolding computing careful_write careful careful_run
 linux_careful = refl
 
 pub linux_alike : AlikeRun begins (chip_of begins) linux_boots
-linux_alike = behind begins begins_sound (chip_of begins) (follows_first begins) linux_boots linux_careful
+linux_alike = behind begins begins_sound (chip_of begins) (follows_itself begins) linux_boots linux_careful
 
 -- Also where bytes were typed before: as it starts it empties the receiver, on both.
 pub linux_typed_before : AlikeRun begins (chip_of begins) (input (0x41 ∷ 0x42 ∷ []) ∷ linux_boots)
 unfolding computing careful_write careful careful_run
-linux_typed_before = behind begins begins_sound (chip_of begins) (follows_first begins) (input (0x41 ∷ 0x42 ∷ []) ∷ linux_boots) refl
+linux_typed_before = behind begins begins_sound (chip_of begins) (follows_itself begins) (input (0x41 ∷ 0x42 ∷ []) ∷ linux_boots) refl
