@@ -1,4 +1,5 @@
--- The chip that a port is follows it: what `Behind` states of it, and what rests on it there.
+-- The chip that a port is follows it: `follows_first` of `Behind`, for what rests on it there. (An edit of a theorem reads only where
+-- nothing of its file rests on it.)
 use mathlib.Core.Path.{refl}
 use lib.Dec.{lit<}
 use Rattle.serial.specs.Port.{Port}
