@@ -1,5 +1,6 @@
--- Four bytes in memory: what four stores leave, and what four loads find.
-use Rattle.std.proofs.Common.{◌≡◌, ℕ, ◌/◌, ◌%◌, List, [], ◌∷◌, length, get_or, set, refl, arith}
+-- Four bytes in memory and a number, as the library has them.
+use Rattle.std.proofs.Common.{◌≡◌, ℕ, ◌/◌, List, [], ◌∷◌, length, arith}
+use Rattle.std.specs.Int.{w32, to_le_bytes, from_le_bytes}
 use Rattle.common.specs.Bytes.{bytes_of, value_of}
 
 -- A list of four elements is four elements.
@@ -11,13 +12,18 @@ four_are P t (a ∷ b ∷ []) n = absurd (omega arith)
 four_are P t (a ∷ b ∷ c ∷ []) n = absurd (omega arith)
 four_are P t (a ∷ b ∷ c ∷ d ∷ e ∷ l) n = absurd (omega arith)
 
-pub stored : (l : List ℕ) → length l ≡ 4 → (v : ℕ)
-    → set (set (set (set l 0 (v % 256)) 1 (v / 256 % 256)) 2 (v / 256 / 256 % 256)) 3 (v / 256 / 256 / 256 % 256) ≡ bytes_of 4 v
+-- The library's bytes of a number are its bytes,
+pub bytes_same : (v : ℕ) → to_le_bytes w32 v ≡ bytes_of 4 v
 unfolding bytes_of
-stored l n v =
-    four_are
-    (λ l. set (set (set (set l 0 (v % 256)) 1 (v / 256 % 256)) 2 (v / 256 / 256 % 256)) 3 (v / 256 / 256 / 256 % 256) ≡ bytes_of 4 v)
-    (λ a b c d. refl) l n
+bytes_same v = rw (third, fourth)
+  where
+    third : v / 256 / 256 ≡ v / 65536
+    third = omega arith
 
-pub loaded : (l : List ℕ) → length l ≡ 4 → value_of (get_or l 0 0 ∷ get_or l 1 0 ∷ get_or l 2 0 ∷ get_or l 3 0 ∷ []) ≡ value_of l
-loaded = four_are (λ l. value_of (get_or l 0 0 ∷ get_or l 1 0 ∷ get_or l 2 0 ∷ get_or l 3 0 ∷ []) ≡ value_of l) (λ a b c d. refl)
+    fourth : v / 65536 / 256 ≡ v / 16777216
+    fourth = omega arith
+
+-- and its number of four bytes is the number that they are.
+pub number_same : (l : List ℕ) → length l ≡ 4 → from_le_bytes w32 l ≡ value_of l
+unfolding value_of
+number_same = four_are (λ l. from_le_bytes w32 l ≡ value_of l) (λ a b c d. omega arith)

@@ -6,7 +6,7 @@ use Rattle.clock.specs.Layout.{spare_of, spare_is_zero}
 -- ---- Tested one by one
 
 module _ (words : List ℕ) where
-  pub first_used : (get_or words 6 0 ≡ 0 → ⊥) → false ≡ spare_is_zero words
+  pub first_used : (get_or words 6 0 ≡ 0 → ⊥) → eqb (get_or words 6 0) 0 ≡ spare_is_zero words
   unfolding spare_is_zero
   first_used h = rw (ne_eqb (get_or words 6 0) 0 h)
 

@@ -1,21 +1,8 @@
--- What each answer of the entry points is in the definition: one lemma for each kind of return.
-use Rattle.std.proofs.Common.{◌≡◌, ℕ, ◌%◌, ◌^◌, List, ℤ, pos, ◌-ℤ◌, sym, refl, ap, ◌∙◌, eq-eqb, ne_eqb}
-use Rattle.clock.specs.Registers.{Clock, Reply, says, refused, Change, becomes, ignored, with_lr, write_of}
-use Rattle.clock.specs.Layout.{signed, clock_of, refusal, Reads, Writes}
+-- What each answer of the entry points is in the definition: one lemma for each kind of return of a write.
+use Rattle.std.proofs.Common.{◌≡◌, ℕ, ◌%◌, ◌^◌, List, ℤ, pos, ◌-ℤ◌, refl, ◌∙◌, eq-eqb, ne_eqb}
+use Rattle.clock.specs.Registers.{Clock, Change, becomes, ignored, with_lr, write_of}
+use Rattle.clock.specs.Layout.{signed, clock_of, refusal, Writes}
 use Rattle.clock.proofs.Registers.{writes_lr, writes_cr}
-
--- ---- Reads
-
-module _ {reply : Reply} {before : List ℕ} where
-  pub says_so : {v : ℕ} {after : List ℕ} {r : ℕ} → reply ≡ says v → Reads (says v) before after r → Reads reply before after r
-  says_so e a = rw e a
-
-  -- The same where the value is told in other words.
-  pub says_equal : {v w : ℕ} {after : List ℕ} {r : ℕ} → reply ≡ says w → v ≡ w → Reads (says v) before after r → Reads reply before after r
-  says_equal e f a = says_so (e ∙ ap says (sym f)) a
-
-  pub says_nothing : reply ≡ refused → Reads reply before before refusal
-  says_nothing e = rw e (record { bytes = refl; answer = refl })
 
 -- ---- Writes
 

@@ -1,7 +1,7 @@
 -- A store of one word is the named register's: eight words are taken apart, and each law computes.
 use Rattle.std.proofs.Common.{◌≡◌, ℕ, ◌/◌, ◌%◌, ◌^◌, List, [], ◌∷◌, length, set, refl, arith}
-use Rattle.clock.specs.Registers.{Clock, fresh, becomes, with_mr, with_lr, with_imsc, with_ris}
-use Rattle.clock.specs.Layout.{signed, clock_of, spare_of, spare_is_zero, Inits, Writes}
+use Rattle.clock.specs.Registers.{Clock, becomes, with_mr, with_lr, with_imsc, with_ris}
+use Rattle.clock.specs.Layout.{signed, clock_of, spare_of, Writes}
 use Rattle.clock.proofs.Time.{halves}
 
 pub eight_are : (P : List ℕ → Type 0) → ((a b c d e f g h : ℕ) → P (a ∷ b ∷ c ∷ d ∷ e ∷ f ∷ g ∷ h ∷ [])) → (l : List ℕ) → length l ≡ 8 → P l
@@ -20,15 +20,7 @@ eight_are P t (a ∷ b ∷ c ∷ d ∷ e ∷ f ∷ g ∷ h ∷ i ∷ l) n = absu
 abbrev Leaves : Clock → List ℕ → List ℕ → Type 0
 Leaves c before after = Writes (becomes c) before after 0
 
--- What is stored as 0.
-abbrev zeros : List ℕ → List ℕ
-zeros l = set (set (set (set (set (set (set (set l 0 0) 1 0) 2 0) 3 0) 4 0) 5 0) 6 0) 7 0
-
 module _ (words : List ℕ) (n : length words ≡ 8) where
-  pub cleared : Inits (zeros words)
-  unfolding clock_of signed fresh spare_is_zero
-  cleared = eight_are (λ l. Inits (zeros l)) (λ _ _ _ _ _ _ _ _. record { clock = refl; spare = refl }) words n
-
   module _ (v : ℕ) where
     pub stores_mr : Leaves (with_mr (clock_of words) v) words (set words 1 v)
     unfolding clock_of spare_of

@@ -3,6 +3,8 @@ use Rattle.std.proofs.Common.{◌≡◌, ℕ, zero, suc, ◌+◌, ◌-◌, ◌/�
 use native.Mathlib.Decide.{dec_lt}
 use lib.Dec.{leb-zero}
 use lib.IntN.{sub_ℕ}
+use Rattle.std.specs.Prelude.{Result, Ok, Err, OkIff}
+use Rattle.std.specs.Result.{result_unwrap_or}
 use Rattle.clock.specs.Registers.{sum, shown}
 use Rattle.clock.specs.Layout.{joined, signed}
 
@@ -82,11 +84,16 @@ module _ (now low high : ℕ) (n : now < 2 ^ 32) (l : low < 2 ^ 32) (h : high < 
   abbrev Shown : ℕ → Type 0
   Shown v = v ≡ shown now (signed (joined low high))
 
-  pub counter_sum : r < 2 ^ 32 → Shown r
+  counter_sum : r < 2 ^ 32 → Shown r
   counter_sum k = rw (← joins) (adds ∙ sym (counter_fits now bits n (omega arith) (omega arith)))
 
-  pub counter_now : 2 ^ 32 ≤ r → Shown now
+  counter_now : 2 ^ 32 ≤ r → Shown now
   counter_now k = rw (← joins) (sym (counter_falls_back now bits n (omega arith) (omega arith)))
+
+  -- The code asks whether it fits 32 bits, and takes `now` where it does not.
+  pub counter_shows : {E : Type 0} (fitted : Result ℕ E) → OkIff fitted (r < 2 ^ 32) r → Shown (result_unwrap_or fitted now)
+  counter_shows (Ok v) k = rw k.1 (counter_sum k.0)
+  counter_shows (Err e) k = counter_now (omega arith)
 
 -- ---- A difference, and its two halves
 

@@ -1,6 +1,6 @@
 -- How the clock lies in the caller's eight words, how a register's number lies in four bytes, and what the entry points
 -- promise of both. Any eight words are some clock. An access is of four bytes, always: DIFFERENCES, "clock-width".
-use Rattle.std.specs.Prelude.{◌≡◌, ℕ, ◌+◌, ◌*◌, ◌^◌, ◌<◌, Bool, true, cond, ◌&&◌, List, [], ◌∷◌, length, ℤ, pos, ◌-ℤ◌, ◌==◌, nat_lt, slice_index}
+use Rattle.std.specs.Prelude.{◌≡◌, ℕ, ◌+◌, ◌*◌, ◌^◌, ◌<◌, Bool, true, cond, ◌&&◌, List, [], ◌∷◌, length, Option, Some, None, ℤ, pos, ◌-ℤ◌, ◌==◌, nat_lt, slice_index}
 use Rattle.common.specs.Answer.{refused_bit}
 use Rattle.common.specs.Bytes.{bytes_of}
 use Rattle.clock.specs.Registers.{Clock, fresh, Reply, says, refused, Change, becomes, ignored}
@@ -47,6 +47,11 @@ abbrev pub refusal : ℕ
 refusal = refused_bit
 
 -- ---- A read
+
+-- What a register says, if there is one to read.
+abbrev pub reply_of : Option ℕ → Reply
+reply_of (Some v) = says v
+reply_of None = refused
 
 -- The caller's bytes afterwards.
 abbrev pub bytes_after : Reply → List ℕ → List ℕ

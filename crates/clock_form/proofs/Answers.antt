@@ -7,6 +7,7 @@ use native.Mathlib.Omega.{arith}
 use lib.ListN.{length, get_or}
 use lib.Seq.{sets, sets-eq}
 use borrow.Author.Tests.{le-leb, lt-leb}
+use Rattle.std.specs.Int.{w16, from_le_bytes}
 use Rattle.common.specs.Bytes.{value_of}
 use Rattle.common.specs.Forms.{Reason, too_short, trailing, version, spare, refusal_word}
 use Rattle.clock.specs.Layout.{spare_is_zero}
@@ -42,8 +43,8 @@ module _ (words form : List ℕ) {zero : Bool} (spares : zero ≡ spare_is_zero 
 refuses : {o : Read} (reason : Reason) (saved : List ℕ) → o ≡ refused reason → Decodes o saved saved (refusal_word reason)
 refuses reason saved e = rw e (record { answer = refl; words = refl })
 
--- The first two bytes, with two zeros behind them.
-version_of : (form : List ℕ) → 2 ≤ length form → value_of (get_or form 0 0 ∷ get_or form 1 0 ∷ 0 ∷ 0 ∷ []) ≡ version_in form
+-- The first two bytes, as the library's number.
+version_of : (form : List ℕ) → 2 ≤ length form → from_le_bytes w16 (get_or form 0 0 ∷ get_or form 1 0 ∷ []) ≡ version_in form
 unfolding value_of
 version_of [] h = absurd (omega arith)
 version_of (x ∷ []) h = absurd (omega arith)
@@ -53,7 +54,7 @@ module _ (form saved : List ℕ) where
   pub decode_no_version : length form < 2 → Decodes (read_form form) saved saved (refusal_word too_short)
   decode_no_version h = refuses too_short saved (only_so form (no_version h))
 
-  module _ (there : 2 ≤ length form) {n : ℕ} (number : n ≡ value_of (get_or form 0 0 ∷ get_or form 1 0 ∷ 0 ∷ 0 ∷ [])) where
+  module _ (there : 2 ≤ length form) {n : ℕ} (number : n ≡ from_le_bytes w16 (get_or form 0 0 ∷ get_or form 1 0 ∷ [])) where
     pub decode_other_version : (n ≡ current → ⊥) → Decodes (read_form form) saved saved (refusal_word version)
     decode_other_version v = refuses version saved (only_so form (other_version there (λ e. v (number ∙ version_of form there ∙ e))))
 

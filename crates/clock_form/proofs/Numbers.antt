@@ -1,10 +1,12 @@
 -- Numbers among bytes: what four loads find, and what the stores leave.
-use mathlib.Core.Path.{◌≡◌, refl}
+use mathlib.Core.Path.{◌≡◌, refl, sym, ◌∙◌}
 use mathlib.Core.List.{List, [], ◌∷◌}
-use Prim.Native.Nat.{ℕ, suc, ◌+◌, ◌/◌, ◌%◌, ◌≤◌}
+use Prim.Native.Nat.{ℕ, suc, ◌+◌, ◌≤◌}
 use native.Mathlib.Omega.{arith}
 use lib.ListN.{length, get_or, set}
-use lib.Seq.{drop-cons, sets}
+use lib.Seq.{drop-cons, sets, sets-eq, take-length}
+use borrow.Rule.Slice.PartMut.{put_mid}
+use Rattle.std.proofs.lemmas.Slice.{put_mid-paste}
 use Rattle.common.specs.Bytes.{bytes_of, value_of}
 use Rattle.clock.proofs.Stores.{eight_are}
 use Rattle.clock_form.specs.Form.{current, form_length, bytes_of_words, form_of, word_at, words_in}
@@ -33,11 +35,11 @@ four_at form at h =
 
 -- ---- Stores
 
-pub four_stores : (form : List ℕ) (at n : ℕ)
-    → set (set (set (set form at (n % 256)) (at + 1) (n / 256 % 256)) (at + 2) (n / 256 / 256 % 256)) (at + 3) (n / 256 / 256 / 256 % 256)
-    ≡ sets form at (bytes_of 4 n)
-unfolding bytes_of
-four_stores form at n = rw (one at, two at, three at)
+-- A part is copied over, as the code has it.
+pub in_place : (form : List ℕ) (at n : ℕ) (bytes part : List ℕ) → at + length bytes ≤ length form → length bytes ≡ n → part ≡ bytes
+    → put_mid at n form part ≡ sets form at bytes
+in_place form at n bytes part room e f =
+    put_mid-paste at n form part bytes (length bytes) f e refl ∙ rw (take-length bytes) (sym (sets-eq bytes form at room))
 
 pub form_length_lem : (words : List ℕ) → length words ≡ 8 → length (form_of words) ≡ form_length
 unfolding form_of bytes_of_words bytes_of

@@ -1,8 +1,9 @@
 -- One line has one answer: what the clock says and what it comes to depends on its words, the time, what is counted and what is kept.
 use Prim.Native.Nat.{ℕ}
 use mathlib.Core.Path.{◌≡◌, refl, sym, ap, ◌∙◌}
-use mathlib.Core.Bool.{Bool, true, false, cond, ◌&&◌, ◌||◌, false≢true}
+use mathlib.Core.Bool.{Bool, true, false, cond, ◌&&◌, false≢true}
 use mathlib.Core.List.{List, [], ◌∷◌}
+use Rattle.std.specs.Prelude.{Option, Some, None}
 use borrow.Author.Tests.{eqb-true}
 use lib.Dec.{eqb}
 use lib.ListN.{get_or, drop}
@@ -14,7 +15,6 @@ use Rattle.words.specs.Decimal.{number_of}
 use Rattle.words.specs.Pattern.{fits_of, begins_like}
 use Rattle.words.specs.Text.{text}
 use Rattle.clock_lines.specs.declared.Clocks.{Clocks}
-use Rattle.clock_lines.specs.declared.Said.{Said}
 use Rattle.clock_lines.specs.Answers.{Asks, Answers, Tells, asks, asks_clock, asks_saved, asks_kept, asks_time, offset_in, bytes_in, words_in, says, restore_says, is_save, counted_then, read, write, set_time, show_state, show_counters, save, restore, nothing}
 
 -- The same clock, of two memories.
@@ -23,17 +23,17 @@ pub record SameClock (clocks clocks' : Clocks) : Type 0 where
   pub time : clocks.time ≡ clocks'.time
   pub counted : counters.clock_of clocks.counters ≡ counters.clock_of clocks'.counters
 
--- The same is kept, or nothing is.
+-- The same is kept, or nothing is, by both.
 pub record SameKept (clocks clocks' : Clocks) : Type 0 where
-  pub kept : asks_kept clocks ≡ asks_kept clocks'
+  pub kept : clocks.kept ≡ clocks'.kept
 
 -- ---- What is asked for, and what is said
 
 saved_once : (line : List ℕ) {clocks clocks' : Clocks} → SameKept clocks clocks' → asks_saved clocks line ≡ asks_saved clocks' line
 unfolding asks_saved
 saved_once line k =
-    ap (λ (a : Asks). cond (fits_of (text "save") line) save
-    (cond (fits_of (text "restore") line) a
+    ap (λ (kept : Option (List ℕ)). cond (fits_of (text "save") line) save
+    (cond (fits_of (text "restore") line) (asks_kept kept)
     (cond (fits_of (text "restore LLLLLLLL OOOOOOOOOOOOOOOO MMMMMMMM KKKKKKKK RRRRRRRR") line) (restore (words_in line)) nothing))) k.kept
 
 clock_once : (line : List ℕ) {clocks clocks' : Clocks} → SameKept clocks clocks' → asks_clock clocks line ≡ asks_clock clocks' line
@@ -49,13 +49,13 @@ asks_once line e = ap (λ (a : Asks). cond (fits_of (text "counters") line) show
 
 -- ---- What it comes to
 
-pub none_kept : {clocks clocks' : Clocks} → clocks.keeps ≡ false → clocks'.keeps ≡ false → SameKept clocks clocks'
-none_kept e f = record { kept = rw (e, f) refl }
+pub none_kept : {clocks clocks' : Clocks} → clocks.kept ≡ None → clocks'.kept ≡ None → SameKept clocks clocks'
+none_kept e f = record { kept = e ∙ sym f }
 
 -- A clock that is named leaves what is kept.
-pub named_kept : {clocks clocks' : Clocks} (clocks₁ clocks₁' : Clocks) → SameKept clocks clocks' → clocks₁.kept ≡ clocks.kept → clocks₁.keeps ≡ clocks.keeps
-    → clocks₁'.kept ≡ clocks'.kept → clocks₁'.keeps ≡ clocks'.keeps → SameKept clocks₁ clocks₁'
-named_kept clocks₁ clocks₁' k e f g h = record { kept = rw (e, f, g, h) k.kept }
+pub named_kept : {clocks clocks' : Clocks} (clocks₁ clocks₁' : Clocks) → SameKept clocks clocks' → clocks₁.kept ≡ clocks.kept
+    → clocks₁'.kept ≡ clocks'.kept → SameKept clocks₁ clocks₁'
+named_kept clocks₁ clocks₁' k e f = record { kept = e ∙ k.kept ∙ sym f }
 
 both_zero : (a b : ℕ) → (eqb a 0 && eqb b 0) ≡ true → (a ≡ 0) × (b ≡ 0)
 both_zero a b = go (eqb a 0) refl
@@ -101,23 +101,22 @@ module _ {clocks clocks' : Clocks} (s : SameClock clocks clocks') where
   counted_then_lem (restore saved) = s.counted
   counted_then_lem nothing = s.counted
 
-  module _ {asked : Asks} {r r' : Said} {out out₁ out' out₁' : List ℕ} {at at' : ℕ}
-      (a : Answers asked clocks out at r out₁) (b : Answers asked clocks' out' at' r' out₁') where
+  module _ {asked : Asks} {clocks₁ clocks₁' : Clocks} {out out₁ out' out₁' : List ℕ}
+      (a : Answers asked clocks out clocks₁ out₁) (b : Answers asked clocks' out' clocks₁' out₁') where
     pub answers_said : says asked clocks a.reached ≡ says asked clocks' b.reached
     answers_said = says_once asked a.reached b.reached a.tells b.tells
 
-    pub answers_kept : SameKept clocks clocks' → SameKept r.clocks r'.clocks
-    answers_kept k = record { kept = rw (a.kept, a.keeps, b.kept, b.keeps) (go (is_save asked)) }
+    pub answers_kept : SameKept clocks clocks' → SameKept clocks₁ clocks₁'
+    answers_kept k = record { kept = a.kept ∙ go (is_save asked) ∙ sym b.kept }
       where
-        go : (saves : Bool) → cond (saves || clocks.keeps) (restore (cond saves clocks.clock clocks.kept)) nothing
-            ≡ cond (saves || clocks'.keeps) (restore (cond saves clocks'.clock clocks'.kept)) nothing
-        go true = ap (λ (x : List ℕ). restore x) s.words
+        go : (saves : Bool) → cond saves (Some clocks.clock) clocks.kept ≡ cond saves (Some clocks'.clock) clocks'.kept
+        go true = ap (λ (words : List ℕ). Some words) s.words
         go false = k.kept
 
-    pub answers_clock : Words r.clocks.clock → Words r'.clocks.clock → SameClock r.clocks r'.clocks
+    pub answers_clock : Words clocks₁.clock → Words clocks₁'.clock → SameClock clocks₁ clocks₁'
     answers_clock w v = record {
       words =
-          same_words r.clocks.clock r'.clocks.clock w v
+          same_words clocks₁.clock clocks₁'.clock w v
           (a.clock ∙ rw (s.words, s.time) refl ∙ sym b.clock)
           (a.spare ∙ rw s.words refl ∙ sym b.spare);
       time = a.time ∙ rw s.time refl ∙ sym b.time;

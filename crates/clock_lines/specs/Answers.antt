@@ -1,5 +1,5 @@
 -- The clock's lines and their answers.
-use Rattle.std.specs.Prelude.{ℕ, ◌+◌, ◌*◌, ◌≤◌, ◌≡◌, Bool, true, false, cond, not, ◌||◌, List, [], ◌∷◌, ◌++◌, ◌↔◌, eqb, get_or, drop}
+use Rattle.std.specs.Prelude.{ℕ, ◌+◌, ◌*◌, ◌≤◌, ◌≡◌, Bool, true, false, cond, not, List, [], ◌∷◌, ◌++◌, length, ◌↔◌, Option, Some, None, eqb, get_or, drop}
 use Rattle.common.specs.Bytes.{value_of}
 use Rattle.clock.specs.Registers.{Clock, Reply, Change, read_of, write_of}
 use Rattle.clock.specs.Layout.{clock_of, spare_of, refusal, bytes_after, read_answer, clock_after, write_answer}
@@ -8,12 +8,8 @@ use Rattle.counters.specs.Counters as counters
 use Rattle.words.specs.Decimal.{number_of, next_decimal}
 use Rattle.words.specs.Hex.{byte_at, digits_of, word_digits}
 use Rattle.words.specs.Pattern.{fits_of, begins_like}
-use Rattle.words.specs.Put.{Puts}
 use Rattle.words.specs.Text.{text}
-use Rattle.words.specs.declared.decimal.Number.{Number}
-use Rattle.words.specs.declared.decimal.Number.TheVariants.{Is, Bad}
 use Rattle.clock_lines.specs.declared.Clocks.{Clocks}
-use Rattle.clock_lines.specs.declared.Said.{Said}
 
 -- ---- What a line asks for
 
@@ -39,18 +35,19 @@ pub data Asks : Type 0 where
   restore : List ℕ → Asks
   nothing : Asks
 
-abbrev pub asks_time : Number → Asks
-asks_time (Is time) = set_time time
-asks_time Bad = nothing
+abbrev pub asks_time : Option ℕ → Asks
+asks_time (Some time) = set_time time
+asks_time None = nothing
 
 -- `restore` alone asks for the clock that was saved last.
-abbrev pub asks_kept : Clocks → Asks
-asks_kept clocks = cond clocks.keeps (restore clocks.kept) nothing
+abbrev pub asks_kept : Option (List ℕ) → Asks
+asks_kept (Some saved) = restore saved
+asks_kept None = nothing
 
 unfoldable pub asks_saved : Clocks → List ℕ → Asks
 asks_saved clocks line =
     cond (fits_of (text "save") line) save
-    (cond (fits_of (text "restore") line) (asks_kept clocks)
+    (cond (fits_of (text "restore") line) (asks_kept clocks.kept)
     (cond (fits_of (text "restore LLLLLLLL OOOOOOOOOOOOOOOO MMMMMMMM KKKKKKKK RRRRRRRR") line) (restore (words_in line)) nothing))
 
 unfoldable pub asks_clock : Clocks → List ℕ → Asks
@@ -176,15 +173,14 @@ counted_then save clocks c = c
 counted_then (restore saved) clocks c = c
 counted_then nothing clocks c = c
 
--- What a line asks for was answered.
-pub record Answers (asked : Asks) (clocks : Clocks) (out : List ℕ) (at : ℕ) (r : Said) (out' : List ℕ) : Type 0 where
+-- What a line asks for was answered, behind what waited.
+pub record Answers (asked : Asks) (clocks : Clocks) (out : List ℕ) (clocks' : Clocks) (out' : List ℕ) : Type 0 where
   pub reached : Bool
   pub tells : Tells asked reached
-  pub said : Puts out at (says asked clocks reached) out' r.put
-  pub clock : clock_of r.clocks.clock ≡ clock_then asked (clock_of clocks.clock) clocks.time
-  pub spare : spare_of r.clocks.clock ≡ spare_then asked (spare_of clocks.clock)
-  pub time : r.clocks.time ≡ time_then asked clocks.time
-  pub kept : r.clocks.kept ≡ cond (is_save asked) clocks.clock clocks.kept
-  pub keeps : r.clocks.keeps ≡ (is_save asked || clocks.keeps)
-  pub counted : counters.clock_of r.clocks.counters ≡ counted_then asked clocks (counters.clock_of clocks.counters)
-  pub short : r.put ≤ at + 4096
+  pub said : out' ≡ out ++ says asked clocks reached
+  pub clock : clock_of clocks'.clock ≡ clock_then asked (clock_of clocks.clock) clocks.time
+  pub spare : spare_of clocks'.clock ≡ spare_then asked (spare_of clocks.clock)
+  pub time : clocks'.time ≡ time_then asked clocks.time
+  pub kept : clocks'.kept ≡ cond (is_save asked) (Some clocks.clock) clocks.kept
+  pub counted : counters.clock_of clocks'.counters ≡ counted_then asked clocks (counters.clock_of clocks.counters)
+  pub short : length out' ≤ length out + 4096

@@ -1,84 +1,79 @@
 // The lines that save the clock and restore it.
-ghost use Rattle.std.specs.Prelude.{◌+◌, ◌≤◌, ◌≡◌};
-ghost use Rattle.words.specs.Put.{Puts};
+ghost use Rattle.std.specs.Prelude.{◌+◌, ◌≤◌, ◌≡◌, ◌++◌, length};
 ghost use Rattle.clock_lines.specs.Answers.{Answers, asks_saved, asks_kept, save, restore, restore_says, word_at, words_in};
 
-use crate::{Clocks, Said, state};
+use crate::{Clocks, state};
 use clock::Clock;
 use common::answer::REACHABLE;
-use words::Block;
 use words::hex::byte_at;
+use words::out::Out;
 use words::pattern::fits;
-use words::put::{put, unknown};
 
-pub fn answer(line: &[u8], clocks: Clocks, out: &mut Block, at: usize) -> Said
-    requires { at + 4096 ≤ 65536 }
-    ensures { Answers (asks_saved clocks line.now) clocks out.old at result out.new }
-{
-    if fits(line, b"save") {
-        return save(clocks, out, at);
+impl Clocks {
+    #[tactic(auto, using(std::proofs::Common::append_assoc), unfolding(crate::specs::Answers::asks_saved))]
+    pub(crate) fn answer_saved(&mut self, line: &[u8], out: &mut Out)
+        requires { length out.old + 4096 ≤ 65536 }
+        ensures { Answers (asks_saved self.old line.now) self.old out.old self.new out.new }
+    {
+        if fits(line, b"save") {
+            self.save(out);
+        } else if fits(line, b"restore") {
+            self.restore_kept(out);
+        } else if fits(
+            line,
+            b"restore LLLLLLLL OOOOOOOOOOOOOOOO MMMMMMMM KKKKKKKK RRRRRRRR",
+        ) {
+            self.restore(&words_in(line), out);
+        } else {
+            out.unknown();
+        }
     }
-    if fits(line, b"restore") {
-        return restore_kept(clocks, out, at);
-    }
-    if fits(
-        line,
-        b"restore LLLLLLLL OOOOOOOOOOOOOOOO MMMMMMMM KKKKKKKK RRRRRRRR",
-    ) {
-        let words = words_in(line);
-        return restore(clocks, &words, out, at);
-    }
-    let put = unknown(out, at);
-    Said { clocks, put }
-}
 
-fn save(mut clocks: Clocks, out: &mut Block, at: usize) -> Said
-    requires { at + 4096 ≤ 65536 }
-    ensures { Answers (save) clocks out.old at result out.new }
-{
-    let clock = clocks.clock;
-    let mut kept = clocks.kept;
-    clock_saved::save(&clock, &mut kept);
-    clocks.kept = kept;
-    clocks.keeps = true;
-    let put = state(b"save", &kept, out, at);
-    Said { clocks, put }
-}
-
-// `restore`, of the clock that was saved last, if one was.
-fn restore_kept(clocks: Clocks, out: &mut Block, at: usize) -> Said
-    requires { at + 4096 ≤ 65536 }
-    ensures { Answers (asks_kept clocks) clocks out.old at result out.new }
-{
-    if clocks.keeps {
-        let kept = clocks.kept;
-        return restore(clocks, &kept, out, at);
+    fn save(&mut self, out: &mut Out)
+        requires { length out.old + 4096 ≤ 65536 }
+        ensures { Answers save self.old out.old self.new out.new }
+    {
+        let mut saved: Clock = [0; 8];
+        clock_saved::save(&self.clock, &mut saved);
+        self.kept = Some(saved);
+        state(b"save", &self.clock, out);
     }
-    let put = unknown(out, at);
-    Said { clocks, put }
-}
 
-fn restore(mut clocks: Clocks, saved: &Clock, out: &mut Block, at: usize) -> Said
-    requires { at + 4096 ≤ 65536 }
-    ensures { Answers (restore saved.now) clocks out.old at result out.new }
-{
-    let mut clock = clocks.clock;
-    let answer = clock_saved::restore(&mut clock, saved);
-    clocks.clock = clock;
-    let put = put_restore(out, at, answer == REACHABLE);
-    Said { clocks, put }
+    // `restore`, of the clock that was saved last, if one was.
+    fn restore_kept(&mut self, out: &mut Out)
+        requires { length out.old + 4096 ≤ 65536 }
+        ensures { Answers (asks_kept self.old.kept) self.old out.old self.new out.new }
+    {
+        match self.kept {
+            Some(saved) => {
+                self.restore(&saved, out);
+            }
+            None => {
+                out.unknown();
+            }
+        }
+    }
+
+    fn restore(&mut self, saved: &Clock, out: &mut Out)
+        requires { length out.old + 4096 ≤ 65536 }
+        ensures { Answers (restore saved.now) self.old out.old self.new out.new }
+    {
+        let answer = clock_saved::restore(&mut self.clock, saved);
+        put_restore(out, answer == REACHABLE);
+    }
 }
 
 // Whether a run could have reached the clock that was restored.
-fn put_restore(out: &mut Block, at: usize, reached: bool) -> usize
-    requires { at + 18 ≤ 65536 }
-    ensures puts { Puts out.old at (restore_says reached) out.new result }
-    ensures upper_bound { result ≤ at + 18 }
+fn put_restore(out: &mut Out, reached: bool)
+    requires { length out.old + 18 ≤ 65536 }
+    ensures says { out.new ≡ out.old ++ (restore_says reached) }
+    ensures upper_bound { length out.new ≤ length out.old + 18 }
 {
     if reached {
-        return put(out, at, b"restore reached\n");
+        out.put(b"restore reached\n");
+    } else {
+        out.put(b"restore unreached\n");
     }
-    put(out, at, b"restore unreached\n")
 }
 
 // LOAD, MATCH, MASK, RAW and the two halves of OFFSET, the lower first; the spare words are 0.
@@ -102,7 +97,10 @@ fn word_at(line: &[u8], i: usize) -> u32
     requires { i ≤ 60 }
     ensures { result ≡ word_at line.now i }
 {
-    let high = (byte_at(line, i) as u32) * 0x100 + byte_at(line, i + 2) as u32;
-    let low = (byte_at(line, i + 4) as u32) * 0x100 + byte_at(line, i + 6) as u32;
-    high * 0x1_0000 + low
+    u32::from_be_bytes([
+        byte_at(line, i),
+        byte_at(line, i + 2),
+        byte_at(line, i + 4),
+        byte_at(line, i + 6),
+    ])
 }

@@ -1,5 +1,6 @@
 // The word that a call answers: a number in the low 16 bits, then one bit each for what else there is to say, then how often the
-// interrupt is to be raised. Bits from 0x200_0000 to 0x800_0000 are spare.
+// interrupt is to be raised. Bits from 0x200_0000 to 0x800_0000 are spare. It is one number, and no enum, since the interface for C
+// hands it on as it is.
 
 // Full, too many bytes, an invalid access of the clock.
 pub const REFUSED: u32 = 0x1_0000;

@@ -2,27 +2,21 @@
 use mathlib.Core.Path.{◌≡◌, refl}
 use mathlib.Core.Bool.{Bool, true, false}
 use mathlib.Core.List.{List, [], ◌∷◌}
-use Prim.Native.Nat.{ℕ, ◌+◌, ◌≤◌}
+use Prim.Native.Nat.{ℕ, ◌+◌, ◌≤◌, min}
+use Rattle.std.specs.Int.{from_bool}
 use native.Mathlib.Omega.{arith}
 use lib.ListN.{length, get_or, set}
 use Rattle.common.specs.Answer.{refused_bit, sent_bit, data_read_bit, none_left_bit}
 use Rattle.common.specs.Bits.{on}
-use Rattle.counters.specs.Counters.{most, counted, answered, lost, fresh_serial, serial_after, serial_of}
-use Rattle.counters.specs.Counters.{read, write, fresh_clock, clock_after, clock_of}
+use Rattle.counters.specs.Counters.{most, counted, answered, lost, serial_after, serial_of}
+use Rattle.counters.specs.Counters.{read, write, clock_after, clock_of}
 
 -- ---- One counter
 
-pub stays : (n : ℕ) {happened : Bool} → happened ≡ false → n ≡ counted n happened
+pub stops : (n : ℕ) (happened : Bool) → n ≤ most → min (n + from_bool happened) most ≡ counted n happened
 unfolding counted
-stays n e = rw e
-
-pub is_most : (n : ℕ) {happened : Bool} → happened ≡ true → n ≡ most → most ≡ counted n happened
-unfolding counted
-is_most n e h = rw e (omega arith)
-
-pub grows : (n : ℕ) {happened : Bool} → happened ≡ true → n ≤ most → (n ≡ most → ⊥) → n + 1 ≡ counted n happened
-unfolding counted
-grows n e k h = rw e (omega arith)
+stops n true h = refl
+stops n false h = omega arith
 
 -- ---- The serial port's four numbers
 
@@ -35,30 +29,18 @@ four_are P t (a ∷ b ∷ c ∷ []) n = absurd (omega arith)
 four_are P t (a ∷ b ∷ c ∷ d ∷ e ∷ l) n = absurd (omega arith)
 
 module _ (l : List ℕ) (n : length l ≡ 4) where
-  pub serial_cleared : serial_of (set (set (set (set l 0 0) 1 0) 2 0) 3 0) ≡ fresh_serial
-  unfolding serial_of
-  serial_cleared = four_are (λ l. serial_of (set (set (set (set l 0 0) 1 0) 2 0) 3 0) ≡ fresh_serial) (λ _ _ _ _. refl) l n
-
-  serial_stores : (word : ℕ)
-      → serial_of
-      (set (set (set l 0 (counted (get_or l 0 0) (on word data_read_bit))) 1 (counted (get_or l 1 0) (on word sent_bit)))
-      3 (counted (get_or l 3 0) (on word none_left_bit)))
-      ≡ serial_after (serial_of l) (answered word)
-  unfolding serial_of serial_after counted
-  serial_stores word =
-      four_are
-      (λ l. serial_of
-      (set (set (set l 0 (counted (get_or l 0 0) (on word data_read_bit))) 1 (counted (get_or l 1 0) (on word sent_bit)))
-      3 (counted (get_or l 3 0) (on word none_left_bit)))
-      ≡ serial_after (serial_of l) (answered word))
-      (λ _ _ _ _. refl) l n
-
   pub serial_counts : (word : ℕ) {t u v : Bool} {reads sent empty : ℕ}
       → t ≡ on word data_read_bit → reads ≡ counted (get_or l 0 0) t
-      → u ≡ on word sent_bit → sent ≡ counted (get_or l 1 0) u
-      → v ≡ on word none_left_bit → empty ≡ counted (get_or l 3 0) v
+      → u ≡ on word sent_bit → sent ≡ counted (get_or (set l 0 reads) 1 0) u
+      → v ≡ on word none_left_bit → empty ≡ counted (get_or (set (set l 0 reads) 1 sent) 3 0) v
       → serial_of (set (set (set l 0 reads) 1 sent) 3 empty) ≡ serial_after (serial_of l) (answered word)
-  serial_counts word d e f g h i = rw (e, g, i, d, f, h) (serial_stores word)
+  unfolding serial_of serial_after counted
+  serial_counts word {t} {u} {v} {reads} {sent} {empty} d e f g h i =
+      four_are
+      (λ l. reads ≡ counted (get_or l 0 0) t → sent ≡ counted (get_or (set l 0 reads) 1 0) u
+      → empty ≡ counted (get_or (set (set l 0 reads) 1 sent) 3 0) v
+      → serial_of (set (set (set l 0 reads) 1 sent) 3 empty) ≡ serial_after (serial_of l) (answered word))
+      (λ _ _ _ _ e g i. rw (e, g, i, d, f, h)) l n e g i
 
   pub serial_loses : {more : ℕ} → more ≡ counted (get_or l 2 0) true → serial_of (set l 2 more) ≡ serial_after (serial_of l) lost
   unfolding serial_of serial_after counted
@@ -75,10 +57,6 @@ two_are P t (a ∷ []) n = absurd (omega arith)
 two_are P t (a ∷ b ∷ c ∷ l) n = absurd (omega arith)
 
 module _ (l : List ℕ) (n : length l ≡ 2) where
-  pub clock_cleared : clock_of (set (set l 0 0) 1 0) ≡ fresh_clock
-  unfolding clock_of
-  clock_cleared = two_are (λ l. clock_of (set (set l 0 0) 1 0) ≡ fresh_clock) (λ _ _. refl) l n
-
   module _ (word : ℕ) {t : Bool} {more : ℕ} (d : t ≡ on word refused_bit) where
     pub counts_read : more ≡ counted (get_or l 0 0) t → clock_of (set l 0 more) ≡ clock_after (clock_of l) (read word)
     unfolding clock_of clock_after counted

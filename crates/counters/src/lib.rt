@@ -11,6 +11,8 @@ use common::answer::{DATA_READ, NONE_LEFT, REFUSED, SENT};
 
 // ---- The counters' memory
 
+// Arrays, and a place for each counter: this is what a host lends through C.
+
 pub type SerialCounters = [u64; 4];
 
 pub const DATA_READS: usize = 0;
@@ -27,34 +29,13 @@ pub const INVALID_READS: usize = 0;
 
 pub const INVALID_WRITES: usize = 1;
 
-const MOST: u64 = u64::MAX;
-
-// Arrays are as long as their types say. A proof learns it from these calls, which do nothing.
-fn four(x: &SerialCounters)
-    ensures { length x.now ≡ 4 }
-{
-    let s: &[u64] = x;
-}
-
-fn two(x: &ClockCounters)
-    ensures { length x.now ≡ 2 }
-{
-    let s: &[u64] = x;
-}
-
 // ---- One counter
 
 // One more where it happened.
-fn count(n: u64, happened: bool) -> u64
-    ensures { result ≡ counted n happened }
+fn count(counter: &mut u64, happened: bool)
+    ensures { counter.new ≡ counted counter.old happened }
 {
-    if !happened {
-        return n;
-    }
-    if n == MOST {
-        return MOST;
-    }
-    n + 1
+    *counter = counter.saturating_add(u64::from(happened));
 }
 
 // Whether an answer has a bit.
@@ -69,32 +50,23 @@ fn says(answer: u32, bit: u32) -> bool
 pub fn serial_init(counters: &mut SerialCounters)
     ensures { serial_of counters.new ≡ fresh_serial }
 {
-    four(counters);
-    counters[DATA_READS] = 0;
-    counters[BYTES_SENT] = 0;
-    counters[BYTES_LOST] = 0;
-    counters[NONE_LEFT_READS] = 0;
+    *counters = [0; 4];
 }
 
 // Any answer of the port: those to a read and a write have something to count.
 pub fn serial_count(counters: &mut SerialCounters, answer: u32)
     ensures { SerialCounts counters.old (answered answer) counters.new }
 {
-    four(counters);
-    let reads = count(counters[DATA_READS], says(answer, DATA_READ));
-    let sent = count(counters[BYTES_SENT], says(answer, SENT));
-    let none_left = count(counters[NONE_LEFT_READS], says(answer, NONE_LEFT));
-    counters[DATA_READS] = reads;
-    counters[BYTES_SENT] = sent;
-    counters[NONE_LEFT_READS] = none_left;
+    count(&mut counters[DATA_READS], says(answer, DATA_READ));
+    count(&mut counters[BYTES_SENT], says(answer, SENT));
+    count(&mut counters[NONE_LEFT_READS], says(answer, NONE_LEFT));
 }
 
 // The sink did not take a byte. It was counted as sent, and stays so.
 pub fn serial_lost(counters: &mut SerialCounters)
     ensures { SerialCounts counters.old lost counters.new }
 {
-    four(counters);
-    counters[BYTES_LOST] = count(counters[BYTES_LOST], true);
+    count(&mut counters[BYTES_LOST], true);
 }
 
 // ---- The clock
@@ -102,23 +74,19 @@ pub fn serial_lost(counters: &mut SerialCounters)
 pub fn clock_init(counters: &mut ClockCounters)
     ensures { clock_of counters.new ≡ fresh_clock }
 {
-    two(counters);
-    counters[INVALID_READS] = 0;
-    counters[INVALID_WRITES] = 0;
+    *counters = [0; 2];
 }
 
 // The answer to a read.
 pub fn clock_count_read(counters: &mut ClockCounters, answer: u32)
     ensures { ClockCounts counters.old (read answer) counters.new }
 {
-    two(counters);
-    counters[INVALID_READS] = count(counters[INVALID_READS], says(answer, REFUSED));
+    count(&mut counters[INVALID_READS], says(answer, REFUSED));
 }
 
 // The answer to a write.
 pub fn clock_count_write(counters: &mut ClockCounters, answer: u32)
     ensures { ClockCounts counters.old (write answer) counters.new }
 {
-    two(counters);
-    counters[INVALID_WRITES] = count(counters[INVALID_WRITES], says(answer, REFUSED));
+    count(&mut counters[INVALID_WRITES], says(answer, REFUSED));
 }

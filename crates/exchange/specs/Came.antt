@@ -1,15 +1,7 @@
 -- What the contracts of the reading cite.
 use Rattle.std.specs.Prelude.{ℕ, ◌≡◌, true, false, List, length, take}
-use Rattle.pieces.specs.Pieces.{Fills, written_of}
+use Rattle.pieces.specs.Pieces.{Fills}
 use Rattle.pieces.specs.declared.State.{State}
-use Rattle.exchange.specs.declared.Came.{Came}
-use Rattle.exchange.specs.declared.Came.TheVariants.{Bytes, End, Failed}
-
--- how many bytes a read brought
-unfoldable pub count_of : Came → ℕ
-count_of (Bytes n) = n
-count_of End = 0
-count_of Failed = 0
 
 -- A read changes nothing before `end`.
 pub record ReadsAfter (held : List ℕ) (end : ℕ) (held' : List ℕ) : Type 0 where
@@ -21,7 +13,7 @@ pub record Filled (held : List ℕ) (s : State) (held' : List ℕ) (s' : State) 
   pub bytes : List ℕ
   pub fills : Fills held s bytes held' s'
 
--- What waited is written. Then more is read, unless lines wait; after the end of the input nothing is.
+-- More is read, unless lines wait; after the end of the input nothing is.
 pub record Exchanged (held : List ℕ) (s : State) (held' : List ℕ) (s' : State) : Type 0 where
-  pub again : s.full ≡ true → (held' ≡ held) × (s' ≡ written_of s)
-  pub more : s.full ≡ false → (s.ended ≡ false) × Filled held (written_of s) held' s'
+  pub again : s.full ≡ true → (held' ≡ held) × (s' ≡ s)
+  pub more : s.full ≡ false → (s.ended ≡ false) × Filled held s held' s'

@@ -2,17 +2,14 @@
 // either fails, standard error says why.
 #![tactic(auto)]
 
-ghost use Rattle.std.specs.Prelude.{◌+◌, ◌≤◌, ◌≡◌, true, length};
-ghost use Rattle.exchange.specs.Came.{count_of, ReadsAfter, Filled, Exchanged};
+ghost use Rattle.std.specs.Prelude.{◌+◌, ◌≤◌, ◌≡◌, true, false, [], length, IfSome};
+ghost use Rattle.exchange.specs.Came.{ReadsAfter, Filled, Exchanged};
 ghost use Rattle.pieces.specs.Pieces.{Sound, Answered};
 
 use pieces::State;
 use std::io::{Eprint, Error, ErrorKind, Read, Write};
 use words::Block;
-
-// A proved loop has to end. How often a signal interrupts a call, and how long the input is, nothing
-// says: no run uses these turns up.
-pub const ENDLESS: u64 = u64::MAX;
+use words::out::Out;
 
 // Says in one line on standard error what failed. Where that fails too, nobody is left to be told.
 fn say<E: Eprint>(errors: &E, what: &str, error: Error) {
@@ -40,101 +37,80 @@ fn write_out<O: Write>(output: &mut O, waiting: &[u8]) -> Result<(), Error> {
     output.flush()
 }
 
-// What a read brought.
-#[derive(Clone, Copy)]
-enum Came {
-    Bytes(usize),
-    End,
-    Failed,
-}
-
-// Reads once into `space`; a call that was only interrupted is tried again. Where the read fails,
-// standard error says why.
-#[tactic(auto, unfolding(crate::specs::Came::count_of))]
-fn read<I: Read, E: Eprint>(input: &mut I, errors: &E, space: &mut [u8]) -> Came
-    ensures { count_of result ≤ length space.old }
+// Reads once into `space`, and answers how many bytes came: 0 at the end of the input, and none where
+// the read fails; standard error then says why. A call that was only interrupted is tried again: how
+// often, nothing says, and no run uses these turns up.
+fn read<I: Read, E: Eprint>(input: &mut I, errors: &E, space: &mut [u8]) -> Option<usize>
+    ensures { IfSome result (λ count. count ≤ length space.old) }
 {
-    let mut turns = ENDLESS;
-    while turns > 0 {
+    for _ in 0..u64::MAX {
         match input.read(space) {
-            Ok(0) => return Came::End,
-            Ok(count) => return Came::Bytes(count),
+            Ok(count) => return Some(count),
             Err(error) => {
                 if error.kind() != ErrorKind::Interrupted {
                     say(errors, "cannot read the list", error);
-                    return Came::Failed;
+                    return None;
                 }
             }
         }
-        turns -= 1;
     }
-    Came::Failed
+    None
 }
 
 // Reads once behind the first `end` bytes of `held`.
-fn read_after<I: Read, E: Eprint>(input: &mut I, errors: &E, held: &mut [u8], end: usize) -> Came
+fn read_after<I: Read, E: Eprint>(
+    input: &mut I,
+    errors: &E,
+    held: &mut [u8],
+    end: usize,
+) -> Option<usize>
     requires { end ≤ length held.old }
-    ensures result_in_bounds { end + count_of result ≤ length held.old }
+    ensures result_in_bounds { IfSome result (λ count. end + count ≤ length held.old) }
     ensures reads_after { ReadsAfter held.old end held.new }
 {
     read(input, errors, &mut held[end..])
 }
 
-// A state, and whether there is more to do.
-#[derive(Clone, Copy)]
-pub struct Next {
-    pub state: State,
-    pub more: bool,
-}
-
-// Reads on behind what is held.
-fn fill<I: Read, E: Eprint>(input: &mut I, errors: &E, held: &mut Block, before: State) -> Next
-    requires sound { Sound before }
-    requires seen_value { before.seen ≡ before.end }
-    ensures sound_2 { Sound result.state }
-    ensures filled { result.more ≡ true → Filled held.old before held.new result.state }
+// Reads on behind what is held, and answers whether that succeeds.
+fn fill<I: Read, E: Eprint>(input: &mut I, errors: &E, held: &mut Block, state: &mut State) -> bool
+    requires sound { Sound state.old }
+    requires seen_value { state.old.seen ≡ state.old.end }
+    ensures sound_2 { Sound state.new }
+    ensures filled { result ≡ true → Filled held.old state.old held.new state.new }
 {
-    let state = pieces::settle(held, before);
+    state.settle(held);
     match read_after(input, errors, held, state.end) {
-        Came::Bytes(count) => Next {
-            state: pieces::came(state, count),
-            more: true,
-        },
-        Came::End => Next {
-            state: pieces::close(held, state),
-            more: true,
-        },
-        Came::Failed => Next { state, more: false },
+        Some(0) => state.close(held),
+        Some(count) => state.came(count),
+        None => return false,
     }
+    true
 }
 
 // Writes the answers that wait, so that whoever types a line sees its answer before a read waits for
-// the next. Then reads, unless lines are held that had no room for their answers.
+// the next. Then reads, unless lines are held that had no room for their answers. Answers whether there
+// is more to do.
 pub fn exchange<I: Read, O: Write, E: Eprint>(
     input: &mut I,
     output: &mut O,
     errors: &E,
     held: &mut Block,
-    out: &Block,
-    before: State,
-) -> Next
-    requires sound { Sound before }
-    requires answered { Answered before }
-    ensures sound_2 { Sound result.state }
-    ensures exchanged { result.more ≡ true → Exchanged held.old before held.new result.state }
+    out: &mut Out,
+    state: &mut State,
+) -> bool
+    requires sound { Sound state.old }
+    requires answered { Answered state.old }
+    ensures sound_2 { Sound state.new }
+    ensures exchanged { result ≡ true → Exchanged held.old state.old held.new state.new }
+    ensures written { result ≡ true → out.new ≡ [] }
+    ensures kept { result ≡ false → out.new ≡ out.old }
 {
-    let mut state = before;
-    let all: &[u8] = out;
-    let count = state.put;
-    if !write(output, errors, &all[0..count]) {
-        return Next { state, more: false };
+    if !write(output, errors, out.as_bytes()) {
+        return false;
     }
-    state.put = 0;
-    if state.full {
-        return Next { state, more: true };
+    let more = state.full || (!state.ended && fill(input, errors, held, state));
+    if more {
+        out.clear();
     }
-    if state.ended {
-        return Next { state, more: false };
-    }
-    fill(input, errors, held, state)
+    more
 }

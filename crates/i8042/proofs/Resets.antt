@@ -26,12 +26,12 @@ resets_means offset value byte r = go (eqb offset command_port) refl (rw (only_f
     go true e h = (eqb-true _ _ e, eqb-true _ _ h)
     go false e h = absurd (false≢true h)
 
--- What the code answers at the command port, and elsewhere.
+-- What the code answers at the command port, and elsewhere, by the one test and the other.
 pub at_command_port : (offset value : ℕ) → value < 256 → offset ≡ command_port → eqb value 0xfe ≡ write_resets offset value
 unfolding write_resets
 at_command_port offset value byte h = rw (eq-eqb _ _ h, only_fe value byte)
 
-pub elsewhere : (offset value : ℕ) → (offset ≡ command_port → ⊥) → false ≡ write_resets offset value
+pub elsewhere : (offset value : ℕ) → (offset ≡ command_port → ⊥) → eqb offset command_port ≡ write_resets offset value
 unfolding write_resets
 elsewhere offset value h = rw (ne_eqb _ _ h)
 

@@ -22,8 +22,5 @@ pub fn read(offset: u8) -> u8
 pub fn write(offset: u8, value: u8) -> bool
     ensures { result ≡ write_resets offset value }
 {
-    if offset == COMMAND_PORT {
-        return value == PULSE_RESET;
-    }
-    false
+    offset == COMMAND_PORT && value == PULSE_RESET
 }

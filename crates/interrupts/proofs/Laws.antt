@@ -1,16 +1,17 @@
 -- What each answer of the code is in the definition.
-use mathlib.Core.Path.{◌≡◌, refl, sym, ap, subst, ◌∙◌}
+use mathlib.Core.Path.{◌≡◌, refl, sym, ap, ◌∙◌}
 use mathlib.Core.Bool.{Bool, true, false, cond, not, ◌&&◌, ◌||◌, true≢false}
 use Prim.Native.Nat.{ℕ, ◌+◌, ◌%◌, ◌≤◌, ◌<◌}
 use native.Mathlib.Nat.{zero-add}
 use native.Mathlib.Omega.{arith}
 use lib.Bits.{bit_and, bit_or, or_mod}
-use lib.Dec.{T, eqb}
-use borrow.Author.Tests.{eq-eqb, ne_eqb}
+use lib.Dec.{eqb}
+use borrow.Author.Tests.{eq-eqb}
+use Rattle.std.proofs.Common.{Some}
 use Rattle.common.specs.Bits.{on}
 use Rattle.common.proofs.EveryByte.{low_and, everywhere}
-use Rattle.interrupts.specs.Interrupts.{Kind, received_data, transmitter_empty, is_enabled, is_active, none_pending, code, settled, newly}
-use Rattle.interrupts.specs.Interrupts.{after_identification, data_came, byte_sent, enabling, raised_again}
+use Rattle.interrupts.specs.Interrupts.{Kind, received_data, transmitter_empty, is_enabled, is_active, none_pending, settled, newly}
+use Rattle.interrupts.specs.Interrupts.{data_came, byte_sent, enabling}
 use Rattle.interrupts.specs.Calls.{Tells, Quiet}
 
 -- ---- What was active and still is raises nothing
@@ -51,24 +52,15 @@ set_active ier iir waits = settled_keeps ier (bit_or iir 0x02) waits ∙ go (on 
     go false e = refl
 
 module _ (ier iir : ℕ) (waits : Bool) where
-  -- ---- Bytes have come: some waited, or none
-
-  pub came_behind : waits ≡ true → Tells (data_came ier iir waits) iir iir 0 false 1
-  came_behind w = rw w (record {
-    stored = refl;
-    raised = sym (rw (newly_same (on ier 0x01 && true), newly_same (is_active ier iir true transmitter_empty)) refl);
-    few = omega arith;
-    stays = λ _. refl;
-  })
+  -- ---- Bytes have come where none waited
 
   pub came_first : waits ≡ false → {iir' r : ℕ} {got : Bool} → iir' ≡ settled ier iir true
-      → ((i : ℕ) → got ≡ is_active ier i true received_data)
-      → r ≡ newly false got → r ≤ 1 → Tells (data_came ier iir waits) iir iir' r true 1
+      → got ≡ (is_enabled ier received_data && true)
+      → r ≡ newly false got → r ≤ 1 → Tells (data_came ier iir waits) iir (Some iir') r 1
   came_first w {iir'} {r} {got} s d n few = rw w (record {
     stored = s;
-    raised = n ∙ ap (newly false) (d iir) ∙ go (on ier 0x01) (settled_keeps ier iir true);
+    raised = n ∙ ap (newly false) d ∙ go (on ier 0x01) (settled_keeps ier iir true);
     few = few;
-    stays = λ f. absurd (true≢false f);
   })
     where
       go : (e : Bool) → is_active ier (settled ier iir true) true transmitter_empty ≡ is_active ier iir true transmitter_empty
@@ -76,61 +68,33 @@ module _ (ier iir : ℕ) (waits : Bool) where
       go true k = rw (k, newly_same (is_active ier iir true transmitter_empty)) refl
       go false k = rw (k, newly_same (is_active ier iir true transmitter_empty)) refl
 
-  -- ---- A byte was sent: the transmitter is enabled, or not
-
-  pub sent_quiet : is_enabled ier transmitter_empty ≡ false → Tells (byte_sent ier iir waits) iir iir 0 false 1
-  sent_quiet d = rw d (record {
-    stored = refl;
-    raised = sym (rw (newly_same (on ier 0x01 && waits)) refl);
-    few = omega arith;
-    stays = λ _. refl;
-  })
+  -- ---- A byte was sent, and the transmitter is enabled
 
   pub sent_told : is_enabled ier transmitter_empty ≡ true → {iir' r : ℕ} {empty : Bool} → iir' ≡ settled ier (bit_or iir 0x02) waits
-      → ((w : Bool) → empty ≡ is_active ier iir w transmitter_empty) → r ≡ newly empty true → r ≤ 1
-      → Tells (byte_sent ier iir waits) iir iir' r true 1
+      → empty ≡ is_active ier iir waits transmitter_empty → r ≡ newly empty true → r ≤ 1
+      → Tells (byte_sent ier iir waits) iir (Some iir') r 1
   sent_told d {iir'} {r} {empty} s e n few =
       let told : cond (is_enabled ier transmitter_empty) (settled ier (bit_or iir 0x02) waits) iir ≡ settled ier (bit_or iir 0x02) waits = rw d in
       record {
         stored = s ∙ sym told;
-        raised = n ∙ ap (λ (b : Bool). newly b true) (e waits)
+        raised = n ∙ ap (λ (b : Bool). newly b true) e
             ∙ sym (rw (told, set_active ier iir waits, newly_same (on ier 0x01 && waits), d) (zero-add _));
         few = few;
-        stays = λ f. absurd (true≢false f);
       }
 
 -- ---- IER is written
 
 pub enabled : (ier ier' iir : ℕ) (waits : Bool) {iir₁ r₁ r₂ : ℕ} {had has empty empty' : Bool} → iir₁ ≡ settled ier' (bit_or iir 0x02) waits
-    → ((i : ℕ) → had ≡ is_active ier i waits received_data) → ((i : ℕ) → has ≡ is_active ier' i waits received_data) → r₁ ≡ newly had has
+    → had ≡ is_active ier iir waits received_data → has ≡ is_active ier' iir waits received_data → r₁ ≡ newly had has
     → r₁ ≤ 1
-    → ((w : Bool) → empty ≡ is_active ier iir w transmitter_empty) → empty' ≡ is_enabled ier' transmitter_empty → r₂ ≡ newly empty empty'
+    → empty ≡ is_active ier iir waits transmitter_empty → empty' ≡ is_enabled ier' transmitter_empty → r₂ ≡ newly empty empty'
     → r₂ ≤ 1
-    → Tells (enabling ier ier' iir waits) iir iir₁ (r₁ + r₂) true 2
+    → Tells (enabling ier ier' iir waits) iir (Some iir₁) (r₁ + r₂) 2
 enabled ier ier' iir waits s d d' n few e e' m few₂ = record {
   stored = s;
-  raised = rw (n, m, d iir, d' iir, e waits, e', set_active ier' iir waits) refl;
+  raised = rw (n, m, d, d', e, e', set_active ier' iir waits) refl;
   few = omega (arith, few, few₂);
-  stays = λ f. absurd (true≢false f);
 }
-
--- ---- IIR is read: the transmitter's interrupt was the answer, or not
-
-pub reset : (ier iir : ℕ) (waits : Bool) {shown : ℕ} → shown ≡ code ier iir waits → shown ≡ 0x02
-    → none_pending ≡ after_identification ier iir waits
-reset ier iir waits s e = sym (rw (eq-eqb _ _ (sym s ∙ e)))
-
-pub kept : (ier iir : ℕ) (waits : Bool) {shown : ℕ} → shown ≡ code ier iir waits → (shown ≡ 0x02 → ⊥)
-    → iir ≡ after_identification ier iir waits
-kept ier iir waits s d = sym (rw (ne_eqb _ _ (λ e. d (s ∙ e))))
-
--- ---- A port is restored
-
-pub restored : (ier iir : ℕ) (waits : Bool) {r₁ r₂ : ℕ} {empty has : Bool} → ((w : Bool) → empty ≡ is_active ier iir w transmitter_empty)
-    → r₁ ≡ newly false empty → r₁ ≤ 1
-    → ((i : ℕ) → has ≡ is_active ier i waits received_data) → r₂ ≡ newly false has → r₂ ≤ 1
-    → (r₁ + r₂ ≡ raised_again ier iir waits) × (r₁ + r₂ ≤ 2)
-restored ier iir waits e n few d m few₂ = (rw (n, m, e waits, d iir) refl, omega (arith, few, few₂))
 
 -- ---- No kind is enabled: nothing is stored but "none", and nothing is raised
 
@@ -165,8 +129,3 @@ module _ (ier : ℕ) (quiet : Quiet ier) (iir : ℕ) (waits : Bool) where
 
   pub quiet_came : ((data_came ier iir waits).iir ≡ cond waits iir none_pending) × ((data_came ier iir waits).raises ≡ 0)
   quiet_came = (ap (λ (i : ℕ). cond waits iir i) quiet_settled, rw (quiet received_data, quiet transmitter_empty) refl)
-
--- ---- A test that may say no says nothing then
-
-pub no : {A : Type 0} → false ≡ true → A
-no e = absurd (subst T (sym e) tt)

@@ -2,9 +2,10 @@
 // no memory. `waits` says whether a byte waits.
 #![tactic(auto)]
 
-ghost use Rattle.std.specs.Prelude.{◌≡◌, Bool, true, false, ℕ, ◌≤◌};
+ghost use Rattle.std.specs.Prelude.{◌≡◌, true, ◌&&◌, ◌≤◌};
+ghost use Rattle.common.specs.Bits.{on};
 ghost use Rattle.interrupts.specs.Interrupts.{received_data, transmitter_empty, newly};
-ghost use Rattle.interrupts.specs.Interrupts.{ier_stored, is_active, is_high, code, settled};
+ghost use Rattle.interrupts.specs.Interrupts.{ier_stored, is_enabled, is_high, code, settled};
 ghost use Rattle.interrupts.specs.Interrupts.{identification, after_identification, after_data_read};
 ghost use Rattle.interrupts.specs.Interrupts.{data_came, byte_sent, enabling, raised_again};
 ghost use Rattle.interrupts.specs.Calls.{Tells, Quiet};
@@ -12,16 +13,24 @@ ghost use Rattle.interrupts.specs.Calls.{Tells, Quiet};
 // No interrupt is pending, as in a fresh port.
 pub const NONE_PENDING: u8 = 0x01;
 
+// The bits of IER that enable each kind. Stored in IIR, `EMPTY` says that the transmitter's interrupt
+// is pending; IIR answers it for that kind, and `DATA_SHOWN` for received data.
+const DATA: u8 = 0x01;
+
+const EMPTY: u8 = 0x02;
+
+const DATA_SHOWN: u8 = 0x04;
+
 // What is to be stored in IIR, and how often the interrupt is to be raised. Where nothing changes
 // nothing need be stored.
 #[derive(Clone, Copy)]
 pub struct Told {
-    pub iir: u8,
+    pub iir: Option<u8>,
     pub raises: u32,
-    pub changes: bool,
 }
 
 // IER keeps four bits.
+#[tactic(auto, unfolding(crate::specs::Interrupts::ier_stored))]
 pub fn ier_stored(value: u8) -> u8
     ensures { result ≡ ier_stored value }
 {
@@ -30,69 +39,66 @@ pub fn ier_stored(value: u8) -> u8
 
 // Received data is active: it is enabled and a byte waits.
 fn has_data(ier: u8, waits: bool) -> bool
-    ensures { (iir : ℕ) → result ≡ is_active ier iir waits received_data }
+    ensures { result ≡ (is_enabled ier received_data && waits) }
 {
-    if ier & 0x01 == 0 {
-        return false;
-    }
-    waits
+    ier & DATA != 0 && waits
 }
 
 // The empty transmitter is active: it is enabled and its bit is stored.
 fn is_empty(ier: u8, iir: u8) -> bool
-    ensures { (waits : Bool) → result ≡ is_active ier iir waits transmitter_empty }
+    ensures { result ≡ (is_enabled ier transmitter_empty && on iir 0x02) }
 {
-    if ier & 0x02 == 0 {
-        return false;
-    }
-    iir & 0x02 != 0
+    ier & EMPTY != 0 && iir & EMPTY != 0
 }
 
 // No kind is enabled, so that none is active, whatever is pending. It may say no there too.
+#[tactic(auto, using(crate::proofs::Laws::is_quiet))]
 pub fn is_quiet(ier: u8) -> bool
     ensures { result ≡ true → Quiet ier }
 {
-    ier & 0x03 == 0
+    ier & (DATA | EMPTY) == 0
 }
 
 // Whether the interrupt line is high.
+#[tactic(auto, unfolding(crate::specs::Interrupts::is_high))]
 pub fn is_high(ier: u8, iir: u8, waits: bool) -> bool
     ensures { result ≡ is_high ier iir waits }
 {
-    if has_data(ier, waits) {
-        return true;
-    }
-    is_empty(ier, iir)
+    has_data(ier, waits) || is_empty(ier, iir)
 }
 
 // The active kind of the highest priority.
+#[tactic(auto, unfolding(crate::specs::Interrupts::code))]
 fn code(ier: u8, iir: u8, waits: bool) -> u8
     ensures { result ≡ code ier iir waits }
 {
     if has_data(ier, waits) {
-        return 0x04;
+        DATA_SHOWN
+    } else if is_empty(ier, iir) {
+        EMPTY
+    } else {
+        NONE_PENDING
     }
-    if is_empty(ier, iir) {
-        return 0x02;
-    }
-    NONE_PENDING
 }
 
-// What a port stores: a bit for each active kind.
+// What a port stores: a bit for each active kind. A match on both tests costs an instruction more at each
+// input, or at each byte in the loop.
+#[tactic(auto, unfolding(crate::specs::Interrupts::settled))]
 pub fn settled(ier: u8, iir: u8, waits: bool) -> u8
     ensures { result ≡ settled ier iir waits }
 {
     let empty = is_empty(ier, iir);
     if has_data(ier, waits) {
         if empty {
-            return 0x06;
+            DATA_SHOWN | EMPTY
+        } else {
+            DATA_SHOWN
         }
-        return 0x04;
+    } else if empty {
+        EMPTY
+    } else {
+        NONE_PENDING
     }
-    if empty {
-        return 0x02;
-    }
-    NONE_PENDING
 }
 
 // What a read of IIR answers: the FIFOs are always on.
@@ -106,20 +112,18 @@ pub fn identification(ier: u8, iir: u8, waits: bool) -> u8
 pub fn after_identification(ier: u8, iir: u8, waits: bool) -> u8
     ensures { result ≡ after_identification ier iir waits }
 {
-    if code(ier, iir, waits) == 0x02 {
-        return NONE_PENDING;
+    if code(ier, iir, waits) == EMPTY {
+        NONE_PENDING
+    } else {
+        iir
     }
-    iir
 }
 
 // What a read of RBR leaves; `waits` is told of the bytes that are left.
 pub fn after_data_read(ier: u8, iir: u8, waits: bool) -> u8
     ensures { result ≡ after_data_read ier iir waits }
 {
-    if waits {
-        return iir;
-    }
-    settled(ier, iir, false)
+    if waits { iir } else { settled(ier, iir, false) }
 }
 
 // 1 where a kind is active and was not, else 0.
@@ -127,61 +131,52 @@ fn newly(before: bool, after: bool) -> u32
     ensures value { result ≡ newly before after }
     ensures upper_bound { result ≤ 1 }
 {
-    if before {
-        return 0;
-    }
-    if after {
-        return 1;
-    }
-    0
+    u32::from(!before && after)
 }
 
 // Bytes have come to the receiver.
+#[tactic(auto, using(crate::proofs::Laws::came_first))]
 pub fn data_came(ier: u8, iir: u8, waits: bool) -> Told
-    ensures { Tells (data_came ier iir waits) iir result.iir result.raises result.changes 1 }
+    ensures { Tells (data_came ier iir waits) iir result.iir result.raises 1 }
 {
     if waits {
         return Told {
-            iir,
+            iir: None,
             raises: 0,
-            changes: false,
         };
     }
     Told {
-        iir: settled(ier, iir, true),
+        iir: Some(settled(ier, iir, true)),
         raises: newly(false, has_data(ier, true)),
-        changes: true,
     }
 }
 
 // A byte was sent: the empty transmitter is raised, unless it is pending or not enabled.
+#[tactic(auto, using(crate::proofs::Laws::sent_told))]
 pub fn byte_sent(ier: u8, iir: u8, waits: bool) -> Told
-    ensures { Tells (byte_sent ier iir waits) iir result.iir result.raises result.changes 1 }
+    ensures { Tells (byte_sent ier iir waits) iir result.iir result.raises 1 }
 {
-    if ier & 0x02 == 0 {
+    if ier & EMPTY == 0 {
         return Told {
-            iir,
+            iir: None,
             raises: 0,
-            changes: false,
         };
     }
     Told {
-        iir: settled(ier, iir | 0x02, waits),
+        iir: Some(settled(ier, iir | EMPTY, waits)),
         raises: newly(is_empty(ier, iir), true),
-        changes: true,
     }
 }
 
 // IER was `old` and is `ier` now.
 pub fn enabling(old: u8, ier: u8, iir: u8, waits: bool) -> Told
-    ensures { Tells (enabling old ier iir waits) iir result.iir result.raises result.changes 2 }
+    ensures { Tells (enabling old ier iir waits) iir result.iir result.raises 2 }
 {
     let data = newly(has_data(old, waits), has_data(ier, waits));
-    let empty = newly(is_empty(old, iir), ier & 0x02 != 0);
+    let empty = newly(is_empty(old, iir), ier & EMPTY != 0);
     Told {
-        iir: settled(ier, iir | 0x02, waits),
+        iir: Some(settled(ier, iir | EMPTY, waits)),
         raises: data + empty,
-        changes: true,
     }
 }
 

@@ -3,7 +3,6 @@ use Prim.Native.Nat.{ℕ, ◌+◌, ◌-◌, ◌≤◌, ◌<◌}
 use mathlib.Core.Path.{◌≡◌, refl, sym, ap, subst, ◌∙◌}
 use mathlib.Core.Bool.{Bool, true, false, true≢false, false≢true}
 use mathlib.Core.List.{List, [], ◌++◌, append-nil}
-use mathlib.Core.Logic.{◌⊎◌, inl, inr}
 use native.Mathlib.Omega.{arith}
 use borrow.Author.Tests.{eqb-true, eqb-false, leb-true, leb-false, ltb-true, ltb-false}
 use lib.Dec.{eqb, leb, ltb}
@@ -15,41 +14,29 @@ use Rattle.pieces.specs.declared.cut.Kind.TheVariants.{Silent, TooLong}
 use Rattle.pieces.proofs.Cutting as cutting
 use Rattle.pieces.proofs.Lines.{joined, line_ends, line_ended, no_line_ends, line_goes_on, length_part}
 use Rattle.words.specs.Text.{text}
-use Rattle.lines.specs.Handing.{task_of, plain_says}
+use Rattle.lines.specs.Handing.{task_of, passed, unknown}
 use Rattle.lines.specs.Answering.{Does, clock, port, plain, AnswersLine, none, next, long_says, told_of, Reads}
 use Rattle.lines.specs.declared.devices.Devices.{Devices}
-use Rattle.lines.specs.declared.devices.Task.{Task}
-use Rattle.lines.specs.declared.devices.Whose.{Whose}
-use Rattle.lines.specs.declared.devices.Whose.TheVariants.{Nobodys, Unknown, Clocks, Ports}
+use Rattle.lines.specs.declared.devices.Task.TheVariants.{Pass, Unknown}
 
 -- ---- A line that is passed over or too long changes no device
 
-not_clocks : {a b : Whose} → a ≡ b → b ≡ Nobodys ⊎ b ≡ Unknown → a ≡ Clocks → ⊥
-not_clocks e (inl n) h = let z : ◌≡◌ {A = ℕ} 0 1 = cc in omega arith
-not_clocks e (inr n) h = let z : ◌≡◌ {A = ℕ} 0 1 = cc in omega arith
-
-not_ports : {a b : Whose} → a ≡ b → b ≡ Nobodys ⊎ b ≡ Unknown → a ≡ Ports → ⊥
-not_ports e (inl n) h = let z : ◌≡◌ {A = ℕ} 0 1 = cc in omega arith
-not_ports e (inr n) h = let z : ◌≡◌ {A = ℕ} 0 1 = cc in omega arith
-
-plainly : {line said : List ℕ} {t : Task} {w w' : Devices} → (t.whose ≡ Clocks → ⊥) → (t.whose ≡ Ports → ⊥) → Does line t w said w'
-    → (said ≡ plain_says line t.whose t.fresh) × (w' ≡ record { device = t.device; clocks = w.clocks; ports = w.ports })
-plainly a b (clock e c) = absurd (a e)
-plainly a b (port e c) = absurd (b e)
-plainly a b (plain _ _) = (refl, refl)
-
 module _ {line : List ℕ} {w : Devices} where
-  passed_over : {said : List ℕ} {w' : Devices} → Does line (task_of line Silent w.device) w said w' → (said ≡ []) × (w' ≡ w)
-  passed_over d = plainly (not_clocks refl (inl refl)) (not_ports refl (inl refl)) d
+  passed_over : {said : List ℕ} {w' : Devices} → Does line Pass w said w' → (said ≡ []) × (w' ≡ w)
+  passed_over (clock c) = elim c [ ]
+  passed_over (port p) = elim p [ ]
+  passed_over (plain _) = (refl, refl)
 
-  refused : {said : List ℕ} {w' : Devices} → Does line (task_of line TooLong w.device) w said w' → (said ≡ text "?\n") × (w' ≡ w)
-  refused d = plainly (not_clocks refl (inr refl)) (not_ports refl (inr refl)) d
+  refused : {said : List ℕ} {w' : Devices} → Does line Unknown w said w' → (said ≡ text "?\n") × (w' ≡ w)
+  refused (clock c) = elim c [ ]
+  refused (port p) = elim p [ ]
+  refused (plain _) = (refl, refl)
 
-  silently : Does line (task_of line Silent w.device) w [] w
-  silently = plain (not_clocks refl (inl refl)) (not_ports refl (inl refl))
+  silently : Does line Pass w [] w
+  silently = plain passed
 
-  refusing : Does line (task_of line TooLong w.device) w (text "?\n") w
-  refusing = plain (not_clocks refl (inr refl)) (not_ports refl (inr refl))
+  refusing : Does line Unknown w (text "?\n") w
+  refusing = plain unknown
 
 -- What kind a long line is: a comment, or too long.
 module _ (line : List ℕ) (long : longest < length line) where

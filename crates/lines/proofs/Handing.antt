@@ -1,101 +1,64 @@
--- To whom a line goes, one law for each place where the code tells it.
+-- What a line that names the serial port is; and that one list is put behind another in one way.
 use Prim.Native.Nat.{ℕ, ◌≤◌}
 use mathlib.Core.Path.{◌≡◌, refl, sym, ap, ◌∙◌}
-use mathlib.Core.Bool.{Bool, true, false, cond, false≢true}
-use mathlib.Core.List.{List, [], append-nil}
+use mathlib.Core.Bool.{Bool, true, false, cond}
+use mathlib.Core.List.{List, ◌++◌}
 use native.Mathlib.Omega.{arith}
-use lib.ListN.{length, take, drop}
+use Rattle.std.specs.Prelude.{Option, Some, None}
+use lib.ListN.{length, drop}
 use lib.Seq.{drop-append_seam}
 use Rattle.pieces.specs.declared.cut.Kind.{Kind}
 use Rattle.pieces.specs.declared.cut.Kind.TheVariants.{Silent, TooLong, Whole}
-use Rattle.serial.specs.Calls.{MakesFresh}
 use Rattle.serial.specs.Port.{is_size}
-use Rattle.words.specs.Put.{Puts}
 use Rattle.words.specs.Pattern.{fits_of}
 use Rattle.words.specs.Text.{text}
 use Rattle.words.proofs.Patterns.{same_length}
-use Rattle.lines.specs.Handing.{size_named, named_by, named_task, task_of, plain_says}
+use Rattle.lines.specs.Handing.{size_named, named_by, names_serial, named_task, task_of}
 use Rattle.lines.specs.declared.devices.Device.{Device}
-use Rattle.lines.specs.declared.devices.Task.{Task}
-use Rattle.lines.specs.declared.devices.Whose.{Whose}
-use Rattle.lines.specs.declared.devices.Whose.TheVariants.{Ports}
-use Rattle.lines.specs.declared.devices.Device.TheVariants.{Nothing, Reset, Clock, Serial}
+use Rattle.lines.specs.declared.devices.Task.TheVariants.{NamesReset, NamesClock, NamesSerial}
 
-pub is_reset : (line : List ℕ) → fits_of (text "i8042") line ≡ true → Reset ≡ named_by line
-unfolding named_by
-is_reset line f = rw f refl
+-- A line names a size with which a port is made, and is short.
+pub record Names (line : List ℕ) (size : ℕ) : Type 0 where
+  pub made : is_size size ≡ true
+  pub short : length line ≤ 11
 
-module _ (line : List ℕ) (no_reset : fits_of (text "i8042") line ≡ false) where
-  pub is_clock : fits_of (text "clock") line ≡ true → Clock ≡ named_by line
-  unfolding named_by
-  is_clock f = rw (no_reset, f) refl
+abbrev MayName : List ℕ → Option ℕ → Type 0
+MayName line (Some size) = Names line size
+MayName line None = Unit {0}
 
-  module _ (no_clock : fits_of (text "clock") line ≡ false) where
-    pub is_serial : is_size (size_named line) ≡ true → Serial ≡ named_by line
-    unfolding named_by
-    is_serial f = rw (no_reset, no_clock, f) refl
-
-    pub is_none : is_size (size_named line) ≡ false → Nothing ≡ named_by line
-    unfolding named_by
-    is_none f = rw (no_reset, no_clock, f) refl
-
--- A line that names the port names a size with which one is made ..
-by_size : (reset clock size : Bool) → cond reset Reset (cond clock Clock (cond size Serial Nothing)) ≡ Serial → size ≡ true
-by_size true clock size e = absurd (let z : ◌≡◌ {A = ℕ} 0 1 = cc in omega arith)
-by_size false true size e = absurd (let z : ◌≡◌ {A = ℕ} 0 1 = cc in omega arith)
-by_size false false true e = refl
-by_size false false false e = absurd (let z : ◌≡◌ {A = ℕ} 0 1 = cc in omega arith)
-
-by_name : (named current : Device) → (named_task named current).whose ≡ Ports → (named_task named current).fresh ≡ true → named ≡ Serial
-by_name Nothing current h f = absurd (false≢true f)
-by_name Reset current h f = absurd (let z : ◌≡◌ {A = ℕ} 0 1 = cc in omega arith)
-by_name Clock current h f = absurd (let z : ◌≡◌ {A = ℕ} 0 1 = cc in omega arith)
-by_name Serial current h f = refl
-
-pub size_is_named : (line : List ℕ) (kind : Kind) (current : Device) {t : Task} → t ≡ task_of line kind current → t.whose ≡ Ports
-    → t.fresh ≡ true → is_size (size_named line) ≡ true
-unfolding named_by
-size_is_named line kind current e h f = go kind (ap (λ (t : Task). t.whose) (sym e) ∙ h) (ap (λ (t : Task). t.fresh) (sym e) ∙ f)
-  where
-    go : (k : Kind) → (task_of line k current).whose ≡ Ports → (task_of line k current).fresh ≡ true → is_size (size_named line) ≡ true
-    go Silent h f = absurd (false≢true f)
-    go TooLong h f = absurd (false≢true f)
-    go Whole h f =
-        by_size (fits_of (text "i8042") line) (fits_of (text "clock") line) (is_size (size_named line)) (by_name (named_by line) current h f)
-
--- .. and is short.
 module _ (line : List ℕ) where
-  abbrev Short : ℕ → Type 0
-  Short size = is_size size ≡ true → length line ≤ 11
-
-  row : (name : List ℕ) (size other : ℕ) → length name ≤ 11 → Short other → Short (cond (fits_of name line) size other)
-  row name size other h s = go (fits_of name line) refl
+  row : (name : List ℕ) (size : ℕ) (other : Option ℕ) → length name ≤ 11 → is_size size ≡ true → MayName line other
+      → MayName line (cond (fits_of name line) (Some size) other)
+  row name size other h s o = go (fits_of name line) refl
     where
-      go : (b : Bool) → fits_of name line ≡ b → Short (cond b size other)
-      go true e = λ _. rw (same_length name line e) h
-      go false e = s
+      go : (b : Bool) → fits_of name line ≡ b → MayName line (cond b (Some size) other)
+      go true e = record { made = s; short = rw (same_length name line e) h }
+      go false e = o
 
-  pub name_short : Short (size_named line)
+  names : MayName line (size_named line)
   unfolding size_named
-  name_short =
-      row (text "serial") 64 _ (omega arith) (row (text "serial 16") 16 _ (omega arith) (row (text "serial 32") 32 _ (omega arith)
-      (row (text "serial 64") 64 _ (omega arith) (row (text "serial 128") 128 _ (omega arith) (row (text "serial 256") 256 _ (omega arith)
-      (row (text "serial 512") 512 _ (omega arith) (row (text "serial 1024") 1024 0 (omega arith) (λ e. absurd (false≢true e)))))))))
+  names =
+      row (text "serial") 64 _ (omega arith) refl (row (text "serial 16") 16 _ (omega arith) refl (row (text "serial 32") 32 _ (omega arith) refl
+      (row (text "serial 64") 64 _ (omega arith) refl (row (text "serial 128") 128 _ (omega arith) refl
+      (row (text "serial 256") 256 _ (omega arith) refl (row (text "serial 512") 512 _ (omega arith) refl
+      (row (text "serial 1024") 1024 None (omega arith) refl tt)))))))
 
--- A fresh port of one size is one of the size that is named.
-pub of_size : {size named : ℕ} {regs pos : List ℕ} → size ≡ named → MakesFresh size regs pos → MakesFresh named regs pos
-of_size e m = rw (← e) m
+  by_name : (reset clock : Bool) (named : Option ℕ) (current : Option Device) {size : ℕ} → MayName line named
+      → NamesSerial size ≡ named_task (cond reset (Some NamesReset) (cond clock (Some NamesClock) (names_serial named))) current
+      → Names line size
+  by_name true clock named current n e = cc
+  by_name false true named current n e = cc
+  by_name false false (Some named) current {size} n e = let z : named ≡ size = cc in rw z at n
+  by_name false false None (Some device) n e = cc
+  by_name false false None None n e = cc
 
-pub nothing_said : (out : List ℕ) (at : ℕ) → Puts out at [] out at
-nothing_said out at = record { next = omega arith; bytes = sym (append-nil _) }
+  pub names_size : (kind : Kind) (current : Option Device) {size : ℕ} → NamesSerial size ≡ task_of line kind current → Names line size
+  unfolding named_by
+  names_size Silent current e = cc
+  names_size TooLong current e = cc
+  names_size Whole current e = by_name (fits_of (text "i8042") line) (fits_of (text "clock") line) (size_named line) current names e
 
--- What is said goes by whose line it is.
-pub said_by : (line : List ℕ) {whose w : Whose} {fresh f : Bool} {out out' : List ℕ} {at r : ℕ} → whose ≡ w → fresh ≡ f → Puts out at (plain_says line w f) out' r
-    → Puts out at (plain_says line whose fresh) out' r
-said_by line e f p = rw (e, f) p
-
--- What was put at a place of a block is one list.
-pub said_once : {out out' a b : List ℕ} {at r : ℕ} → Puts out at a out' r → Puts out at b out' r → a ≡ b
-said_once {out} {out'} {a} {b} {at} p q =
-    let front = take at out in
-    sym (drop-append_seam front a) ∙ ap (λ (l : List ℕ). drop (length front) l) (sym p.bytes ∙ q.bytes) ∙ drop-append_seam front b
+-- What was put behind a list is one list.
+pub said_once : (out : List ℕ) {out' a b : List ℕ} → out' ≡ out ++ a → out' ≡ out ++ b → a ≡ b
+said_once out {a = a} {b = b} p q =
+    sym (drop-append_seam out a) ∙ ap (λ (l : List ℕ). drop (length out) l) (sym p ∙ q) ∙ drop-append_seam out b

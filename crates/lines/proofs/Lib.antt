@@ -1,5 +1,5 @@
 pub mod Answering
-mod Going
+mod Handed
 pub mod Handing
 pub mod Once
 pub mod Running

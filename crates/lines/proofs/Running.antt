@@ -8,7 +8,7 @@ use lib.ListN.{length, take, drop}
 use lib.Seq.{take-take, take_at, drop_at, length-take-le}
 use Rattle.pieces.specs.Cutting.{longest, lines_in, rest_of, lines_of, bytes_from}
 use Rattle.pieces.specs.Inside.{Settles, close_of}
-use Rattle.pieces.specs.Pieces.{Stands, Sound, Answered, Fills, read, ended_here, start_of, written_of}
+use Rattle.pieces.specs.Pieces.{Stands, Sound, Answered, Fills, read, ended_here, start_of}
 use Rattle.pieces.specs.declared.State.{State}
 use Rattle.pieces.proofs.Lines.{joined, drop_take, lines_append, rest_append}
 use Rattle.words.specs.Put.{Puts}
@@ -29,10 +29,6 @@ module _ {l bytes l' : List ℕ} {at r : ℕ} (p : Puts l at bytes l' r) (fits :
   pub behind : bytes_from at r l' ≡ bytes
   behind = sym (drop_take at r l') ∙ ap (λ (x : List ℕ). drop at x) p.bytes ∙ drop_at (take at l) bytes at (length-take-le at l fits)
 
--- What was put into an empty block is all that waits there.
-waiting : {out said out' : List ℕ} {r : ℕ} → Puts out 0 said out' r → take r out' ≡ said
-waiting p = p.bytes
-
 -- ---- What holds in a run
 
 -- What was read, with the newline that closes it.
@@ -51,19 +47,17 @@ pub record Stays (input said held : List ℕ) (t : Turn) : Type 0 where
   pub answered : Answered t.state
 
 -- A turn answers what was read but not searched.
-turned : {first w : Devices} {input searched said held out out' line : List ℕ} {s : State} {t : Turn} → First first → Stands held s line
+turned : {first w : Devices} {input searched said held out' line : List ℕ} {s : State} {t : Turn} → First first → Stands held s line
     → read_of s.ended input ≡ searched ++ bytes_from s.seen s.end held
     → Reads first [] [] searched said w line (told_of s.passes line)
-    → s.put ≡ 0
-    → Answering held s w out out' t
-    → Stays input (said ++ take t.state.put out') held t
-turned {first} {w} {input} {searched} {said} {held} {out} {out'} {line} {s} {t} b h a r z k =
+    → Answering held s w [] out' t
+    → Stays input (said ++ out') held t
+turned {first} {w} {input} {searched} {said} {held} {out'} {line} {s} {t} b h a r k =
     let m = k.turns in
     let g = m.goes line h in
     let o = m.onward in
     let n = k.sound.searched in
     let e = m.end in
-    let w : take t.state.put out' ≡ m.said = waiting (subst (λ (x : ℕ). Puts out x m.said out' t.state.put) z m.puts) in
     record {
       first = first;
       begins = b;
@@ -74,14 +68,14 @@ turned {first} {w} {input} {searched} {said} {held} {out} {out'} {line} {s} {t} 
           ap (λ (x : List ℕ). searched ++ x)
           (ap (λ (x : ℕ). bytes_from s.seen x held) (sym e) ∙ joined held s.seen t.state.seen t.state.end o n) ∙
           sym (append_assoc searched (bytes_from s.seen t.state.seen held) (bytes_from t.state.seen t.state.end held));
-      reads = rw w (reads_append r g.reads);
+      reads = rw m.puts (reads_append r g.reads);
       sound = k.sound;
       answered = k.answered;
     }
 
 -- Between two reads the current line stays what it was, and the bytes that come are the next ones.
 module _ {held held' held'' bytes line : List ℕ} {s₀ s : State} {r : ℕ} (h : Stands held s₀ line) (all_seen : s₀.seen ≡ s₀.end)
-    (st : Settles held (written_of s₀) held' s) (p : Puts held' s.end bytes held'' r) (fits : s.end ≤ length held') where
+    (st : Settles held s₀ held' s) (p : Puts held' s.end bytes held'' r) (fits : s.end ≤ length held') where
   passed : s.passes ≡ s₀.passes
   passed = ap (λ (x : State). x.passes) st.place
 
@@ -121,17 +115,17 @@ started held {w} b = record {
   searched = [];
   all = refl;
   reads = reads_none w [] [];
-  sound = record { started = omega arith; short = omega arith; searched = omega arith; held = omega arith; waits = omega arith };
+  sound = record { started = omega arith; short = omega arith; searched = omega arith; held = omega arith };
   answered = record { all = λ _. refl };
 }
 
 -- What was read is the rest of what is held.
-filled : (input said : List ℕ) {bytes held held' out out' : List ℕ} {s : State} {t : Turn} (t' : Turn) → Stays input said held t
+filled : (input said : List ℕ) {bytes held held' out' : List ℕ} {s : State} {t : Turn} (t' : Turn) → Stays input said held t
     → t.state.full ≡ false
     → t.state.ended ≡ false
-    → Fills held (written_of t.state) bytes held' s
-    → Answering held' s t.devices out out' t'
-    → Stays (input ++ bytes) (said ++ take t'.state.put out') held' t'
+    → Fills held t.state bytes held' s
+    → Answering held' s t.devices [] out' t'
+    → Stays (input ++ bytes) (said ++ out') held' t'
 filled input said {t = t} t' i full ended (read {bytes = bytes} {held' = held'} {s' = s} st block p) k =
     let seen : t.state.seen ≡ t.state.end = i.answered.all full in
     let n = k.turns.end in
@@ -145,11 +139,10 @@ filled input said {t = t} t' i full ended (read {bytes = bytes} {held' = held'} 
     (record { whole = settled_whole i.stands seen st p fits; long = settled_long i.stands seen st p fits })
     (rw o (ap (λ (x : List ℕ). x ++ bytes) was ∙ ap (λ (x : List ℕ). i.searched ++ x) (sym new)))
     (rw (ap (λ (x : State). x.passes) st.place) i.reads)
-    (ap (λ (x : State). x.put) st.place)
     k
-filled input said {out = out} {out' = out'} {t = t} t' i full ended (ended_here {held' = held'} {held'' = held''} {s' = s} st block b) k =
+filled input said {out' = out'} {t = t} t' i full ended (ended_here {held' = held'} {held'' = held''} {s' = s} st block b) k =
     let seen : t.state.seen ≡ t.state.end = i.answered.all full in
-    let k' : Answering held'' (close_of s) t.devices out out' t' = subst (λ (x : State). Answering held'' x t.devices out out' t') b.place k in
+    let k' : Answering held'' (close_of s) t.devices [] out' t' = subst (λ (x : State). Answering held'' x t.devices [] out' t') b.place k in
     let p : Puts held' s.end (0x0a ∷ []) held'' (s.end + 1) =
     subst (λ (x : State). Puts held' s.end (0x0a ∷ []) held'' x.end) b.place b.line in
     let n = k'.turns.end in
@@ -162,18 +155,17 @@ filled input said {out = out} {out' = out'} {t = t} t' i full ended (ended_here 
     (record { whole = settled_whole i.stands seen st p fits; long = settled_long i.stands seen st p fits })
     (ap (λ (x : List ℕ). x ++ (0x0a ∷ [])) was ∙ ap (λ (x : List ℕ). i.searched ++ x) (sym new))
     (rw (ap (λ (x : State). x.passes) st.place) i.reads)
-    (ap (λ (x : State). x.put) st.place)
     k')
 
 pub stays : {input written held out : List ℕ} {t : Turn} → Runs input written held out t
-    → Stays input (written ++ take t.state.put out) held t
-stays (begun {held} {out} {t} b e) =
-    subst (λ (x : State). Stays [] (take x.put out) held (record { devices = t.devices; state = x })) (sym e) (started held b)
+    → Stays input (written ++ out) held t
+stays (begun {held} {t} b e) =
+    subst (λ (x : State). Stays [] [] held (record { devices = t.devices; state = x })) (sym e) (started held b)
 stays (again {t = t} r f k) =
     let i = stays r in
-    turned i.begins (record { whole = i.stands.whole; long = i.stands.long }) i.all i.reads refl k
-stays (more {input = input} {written = written} {out = out} {out' = out'} {t = t} {t' = t'} r full ended f k) =
-    filled input (written ++ take t.state.put out) t' (stays r) full ended f k
+    turned i.begins (record { whole = i.stands.whole; long = i.stands.long }) i.all i.reads k
+stays (more {input = input} {written = written} {out = out} {t = t} {t' = t'} r full ended f k) =
+    filled input (written ++ out) t' (stays r) full ended f k
 
 -- ---- The whole input
 
@@ -228,9 +220,9 @@ module _ {input said held : List ℕ} {t : Turn} (i : Stays input said held t) (
 
 module _ {input written held out : List ℕ} {t : Turn} (r : Runs input written held out t) (full : t.state.full ≡ false) where
   -- When the input has ended, all that is written and waits is its answer.
-  pub answers_all : t.state.ended ≡ true → AnswersInput input (written ++ take t.state.put out)
+  pub answers_all : t.state.ended ≡ true → AnswersInput input (written ++ out)
   answers_all ended = whole_input (stays r) full ended
 
   -- Before more is read, each line that has ended is answered.
-  pub answers_so_far : t.state.ended ≡ false → AnswersSoFar input (written ++ take t.state.put out)
+  pub answers_so_far : t.state.ended ≡ false → AnswersSoFar input (written ++ out)
   answers_so_far ended = so_far (stays r) full ended

@@ -1,56 +1,49 @@
 -- What an input is answered, the whole of it and as far as it has come: each line once, one after another.
-use Rattle.std.specs.Prelude.{ℕ, ◌<◌, ◌≡◌, Bool, true, false, cond, List, [], ◌∷◌, ◌++◌, eqb, length, get_or}
+use Rattle.std.specs.Prelude.{ℕ, ◌+◌, ◌<◌, ◌≤◌, ◌≡◌, Bool, true, false, cond, None, List, [], ◌∷◌, ◌++◌, eqb, length, get_or}
 use Rattle.clock.specs.Layout.{Words}
 use Rattle.clock_lines.specs.declared.Clocks as clock-memory
-use Rattle.clock_lines.specs.declared.Said as clock-said
 use Rattle.pieces.specs.Cutting.{longest, kind_of, lines_of, lines_in, rest_of}
-use Rattle.serial.specs.Layout.{places}
 use Rattle.serial_lines.specs.declared.Ports as serial-memory
-use Rattle.serial_lines.specs.declared.Said as serial-said
-use Rattle.words.specs.Put.{Puts}
 use Rattle.words.specs.Text.{text}
-use Rattle.lines.specs.Handing.{task_of, plain_says, BeginsClock, AnswersClock, BeginsSerial, AnswersSerial}
-use Rattle.lines.specs.declared.devices.Device.TheVariants.{Nothing}
+use Rattle.lines.specs.Handing.{task_of, current_after, Plain, plain_says, BeginsClock, AnswersClock, BeginsSerial, AnswersSerial}
+use Rattle.lines.specs.declared.devices.Device.TheVariants.{Clock, Serial}
 use Rattle.lines.specs.declared.devices.Devices.{Devices}
 use Rattle.lines.specs.declared.devices.Task.{Task}
-use Rattle.lines.specs.declared.devices.Whose.TheVariants.{Clocks, Ports}
+use Rattle.lines.specs.declared.devices.Task.TheVariants.{NamesClock, NamesSerial, Asks}
 
 -- ---- One line
 
--- The clock, or the serial port, is named or answers a line: so it does where `said` is put behind what waits in some block. The clock is
--- eight words of 32 bits after it.
-pub record ClockSays (line : List ℕ) (fresh : Bool)
-    (clocks : clock-memory.Clocks) (said : List ℕ) (clocks' : clock-memory.Clocks) : Type 0 where
-  pub out : List ℕ
-  pub at : ℕ
-  pub answer : clock-said.Said
-  pub out' : List ℕ
-  pub puts : Puts out at said out' answer.put
-  pub after : answer.clocks ≡ clocks'
-  pub begins : fresh ≡ true → BeginsClock clocks out at answer out'
-  pub answers : fresh ≡ false → AnswersClock line clocks out at answer out'
-  pub words : Words answer.clocks.clock
+-- The clock, or the serial port, is named or answers a line: so it does where `said` is put behind what waits somewhere. A line that names
+-- the port is its own answer. The clock is eight words of 32 bits after it.
+pub data ClockSays (line : List ℕ) (clocks : clock-memory.Clocks) : Task → List ℕ → clock-memory.Clocks → Type 0 where
+  clock_named : {clocks' : clock-memory.Clocks} → BeginsClock clocks clocks' → Words clocks'.clock
+      → ClockSays line clocks NamesClock (text "clock\n") clocks'
+  clock_asked : {out said out' : List ℕ} {clocks' : clock-memory.Clocks} → out' ≡ out ++ said
+      → AnswersClock line clocks out clocks' out' → Words clocks'.clock
+      → ClockSays line clocks (Asks Clock) said clocks'
 
-pub record PortSays (line : List ℕ) (fresh : Bool)
-    (ports : serial-memory.Ports) (said : List ℕ) (ports' : serial-memory.Ports) : Type 0 where
-  pub out : List ℕ
-  pub at : ℕ
-  pub answer : serial-said.Said
-  pub out' : List ℕ
-  pub puts : Puts out at said out' answer.put
-  pub after : answer.ports ≡ ports'
-  pub begins : fresh ≡ true → BeginsSerial line ports out at answer out'
-  pub answers : fresh ≡ false → AnswersSerial line ports out at answer out'
+pub data PortSays (line : List ℕ) (ports : serial-memory.Ports) : Task → List ℕ → serial-memory.Ports → Type 0 where
+  port_named : {size : ℕ} {ports' : serial-memory.Ports} → BeginsSerial size ports ports'
+      → PortSays line ports (NamesSerial size) (line ++ text "\n") ports'
+  port_asked : {out said out' : List ℕ} {ports' : serial-memory.Ports} → out' ≡ out ++ said
+      → AnswersSerial line ports out ports' out'
+      → PortSays line ports (Asks Serial) said ports'
 
 -- What is to be done with a line is done: what is said, and the devices after it.
 pub data Does (line : List ℕ) (task : Task) (w : Devices) : List ℕ → Devices → Type 0 where
-  clock : {said : List ℕ} {clocks' : clock-memory.Clocks} → task.whose ≡ Clocks → ClockSays line task.fresh w.clocks said clocks'
-      → Does line task w said (record { device = task.device; clocks = clocks'; ports = w.ports })
-  port : {said : List ℕ} {ports' : serial-memory.Ports} → task.whose ≡ Ports → PortSays line task.fresh w.ports said ports'
-      → Does line task w said (record { device = task.device; clocks = w.clocks; ports = ports' })
-  plain : (task.whose ≡ Clocks → ⊥) → (task.whose ≡ Ports → ⊥)
-      → Does line task w (plain_says line task.whose task.fresh)
-      (record { device = task.device; clocks = w.clocks; ports = w.ports })
+  clock : {said : List ℕ} {clocks' : clock-memory.Clocks} → ClockSays line w.clocks task said clocks'
+      → Does line task w said (record { device = current_after task w.device; clocks = clocks'; ports = w.ports })
+  port : {said : List ℕ} {ports' : serial-memory.Ports} → PortSays line w.ports task said ports'
+      → Does line task w said (record { device = current_after task w.device; clocks = w.clocks; ports = ports' })
+  plain : Plain task
+      → Does line task w (plain_says line task) (record { device = current_after task w.device; clocks = w.clocks; ports = w.ports })
+
+-- A line was handed on: what is said is put behind what waited.
+pub record Hands (line : List ℕ) (task : Task) (w : Devices) (out : List ℕ) (w' : Devices) (out' : List ℕ) : Type 0 where
+  pub said : List ℕ
+  pub puts : out' ≡ out ++ said
+  pub does : Does line task w said w'
+  pub short : length out' ≤ length out + 4096
 
 -- Of which kind a line is the whole of it tells.
 abbrev pub AnswersLine : List ℕ → Devices → List ℕ → Devices → Type 0
@@ -65,9 +58,9 @@ pub data Answers : Devices → List (List ℕ) → List ℕ → Devices → Type
 
 -- At first no device is named and none is saved.
 pub record First (w : Devices) : Type 0 where
-  pub device : w.device ≡ Nothing
-  pub clocks : w.clocks.keeps ≡ false
-  pub ports : places < w.ports.held.count
+  pub device : w.device ≡ None
+  pub clocks : w.clocks.kept ≡ None
+  pub ports : w.ports.held.kept ≡ None
 
 -- `said` answers the whole input.
 pub record AnswersInput (input said : List ℕ) : Type 0 where

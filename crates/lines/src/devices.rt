@@ -1,223 +1,154 @@
 // The current device, and the line that is handed to it.
-ghost use Rattle.std.specs.Prelude.{◌+◌, ◌≤◌, ◌≡◌, true, false, cond};
+ghost use Rattle.std.specs.Prelude.{◌+◌, ◌≤◌, ◌≡◌, length};
 ghost use Rattle.clock.specs.Layout.{Words};
-ghost use Rattle.serial.specs.Port.{is_size};
-ghost use Rattle.lines.specs.Handing.{size_named, named_by, whose_line, named_task, task_of, plain_says};
-ghost use Rattle.lines.specs.Handing.{BeginsClock, AnswersClock, BeginsSerial, AnswersSerial};
-ghost use Rattle.words.specs.Pattern.{fits_of};
-ghost use Rattle.words.specs.Put.{Puts};
+ghost use Rattle.lines.specs.Answering.{First, Hands};
+ghost use Rattle.lines.specs.Handing.{size_named, named_by, task_of};
 
-use clock::eight_words;
+use clock::Clock;
 use clock_lines::Clocks;
 use pieces::cut::Kind;
-use serial::waiting::is_size;
 use serial_lines::Ports;
-use words::Block;
+use words::out::Out;
 use words::pattern::fits;
-use words::put::{put, unknown};
 
 #[derive(Clone, Copy)]
 pub enum Device {
-    Nothing,
     Reset,
     Clock,
     Serial,
 }
 
-// The current device, and the devices that have a state, each with the one that was saved last.
+// The current device, if one was named, and the devices that have a state, each with the one that was
+// saved last.
 #[derive(Clone, Copy)]
 pub struct Devices {
-    pub device: Device,
+    pub device: Option<Device>,
     pub clocks: Clocks,
     pub ports: Ports,
 }
 
-// Who answers a line.
+// What is to be done with a line.
 #[derive(Clone, Copy)]
-pub enum Whose {
-    // Nobody: it is passed over.
-    Nobodys,
+pub enum Task {
+    // It is passed over.
+    Pass,
     // It is no operation.
     Unknown,
-    Resets,
-    Clocks,
-    Ports,
+    // It names a device, which is then fresh and the current one: the serial port with its size.
+    NamesReset,
+    NamesClock,
+    NamesSerial(u32),
+    // It is for this device, the current one.
+    Asks(Device),
 }
 
-// What is to be done with a line: `fresh` says that it names the device, which is then the current
-// one.
-#[derive(Clone, Copy)]
-pub struct Task {
-    pub whose: Whose,
-    pub fresh: bool,
-    pub device: Device,
+impl Devices {
+    // No device is named, and none saved.
+    pub(crate) fn start() -> Self
+        ensures { First result }
+    {
+        Devices {
+            device: None,
+            clocks: Clocks::start(),
+            ports: Ports::start(),
+        }
+    }
+
+    // Answers a line of this kind.
+    pub(crate) fn answer(&mut self, line: &[u8], kind: Kind, out: &mut Out)
+        requires { length out.old + 4096 ≤ 65536 }
+        ensures { Hands line.now (task_of line.now kind self.old.device) self.old out.old self.new out.new }
+    {
+        match task_of(line, kind, self.device) {
+            Task::Pass => {}
+            Task::Unknown => {
+                out.unknown();
+            }
+            Task::NamesReset => {
+                self.device = Some(Device::Reset);
+                out.put(b"i8042\n");
+            }
+            Task::NamesClock => {
+                self.device = Some(Device::Clock);
+                self.clocks.begin();
+                eight_words(&self.clocks.clock);
+                out.put(b"clock\n");
+            }
+            Task::NamesSerial(size) => {
+                self.device = Some(Device::Serial);
+                self.ports.begin(size);
+                out.put(line);
+                out.put(b"\n");
+            }
+            Task::Asks(Device::Reset) => {
+                reset_lines::answer(line, out);
+            }
+            Task::Asks(Device::Clock) => {
+                let clocks = &mut self.clocks;
+                clocks.answer(line, out);
+                eight_words(&clocks.clock);
+            }
+            Task::Asks(Device::Serial) => {
+                self.ports.answer(line, out);
+            }
+        }
+    }
 }
 
-pub fn task_of(line: &[u8], kind: Kind, device: Device) -> Task
+// That the clock's words have 32 bits, as `ClockSays` has it, by which `one_answer` goes: the check knows it of a
+// slice that is read, and not of a field of what a call has changed.
+fn eight_words(clock: &Clock)
+    ensures { Words clock.now }
+{
+    let words: &[u32] = clock;
+    let _first = words[0];
+}
+
+fn task_of(line: &[u8], kind: Kind, device: Option<Device>) -> Task
     ensures { result ≡ task_of line.now kind device }
 {
     match kind {
-        Kind::Silent => Task {
-            whose: Whose::Nobodys,
-            fresh: false,
-            device,
-        },
-        Kind::TooLong => Task {
-            whose: Whose::Unknown,
-            fresh: false,
-            device,
-        },
-        Kind::Whole => whole_task(named(line), device),
+        Kind::Silent => Task::Pass,
+        Kind::TooLong => Task::Unknown,
+        Kind::Whole => named(line).unwrap_or(device.map_or(Task::Unknown, Task::Asks)),
     }
 }
 
-// Of a line that names a device, or none.
-fn whole_task(named: Device, device: Device) -> Task
-    ensures { result ≡ named_task named device }
-{
-    match named {
-        Device::Nothing => Task {
-            whose: line_of(device),
-            fresh: false,
-            device,
-        },
-        Device::Reset => Task {
-            whose: Whose::Resets,
-            fresh: true,
-            device: Device::Reset,
-        },
-        Device::Clock => Task {
-            whose: Whose::Clocks,
-            fresh: true,
-            device: Device::Clock,
-        },
-        Device::Serial => Task {
-            whose: Whose::Ports,
-            fresh: true,
-            device: Device::Serial,
-        },
-    }
-}
-
-// The device that a line names.
-fn named(line: &[u8]) -> Device
+#[tactic(auto, unfolding(crate::specs::Handing::named_by))]
+fn named(line: &[u8]) -> Option<Task>
     ensures { result ≡ named_by line.now }
 {
     if fits(line, b"i8042") {
-        return Device::Reset;
+        Some(Task::NamesReset)
+    } else if fits(line, b"clock") {
+        Some(Task::NamesClock)
+    } else {
+        size_named(line).map(Task::NamesSerial)
     }
-    if fits(line, b"clock") {
-        return Device::Clock;
-    }
-    if is_size(size_named(line)) {
-        return Device::Serial;
-    }
-    Device::Nothing
 }
 
-// How many bytes may wait in the serial port that a line names, or 0 where it names none.
-fn size_named(line: &[u8]) -> u32
+// How many bytes may wait in the serial port that a line names, if it names one.
+#[tactic(auto, unfolding(crate::specs::Handing::size_named))]
+fn size_named(line: &[u8]) -> Option<u32>
     ensures { result ≡ size_named line.now }
 {
-    let a = size_if(line, b"serial 1024", 1024, 0);
-    let b = size_if(line, b"serial 512", 512, a);
-    let c = size_if(line, b"serial 256", 256, b);
-    let d = size_if(line, b"serial 128", 128, c);
-    let e = size_if(line, b"serial 64", 64, d);
-    let f = size_if(line, b"serial 32", 32, e);
-    let g = size_if(line, b"serial 16", 16, f);
-    size_if(line, b"serial", 64, g)
-}
-
-// The size where the line is this name, or another.
-fn size_if(line: &[u8], name: &[u8], size: u32, other: u32) -> u32
-    ensures { result ≡ cond (fits_of name.now line.now) size other }
-{
-    if fits(line, name) {
-        return size;
+    if fits(line, b"serial") {
+        Some(64)
+    } else if fits(line, b"serial 16") {
+        Some(16)
+    } else if fits(line, b"serial 32") {
+        Some(32)
+    } else if fits(line, b"serial 64") {
+        Some(64)
+    } else if fits(line, b"serial 128") {
+        Some(128)
+    } else if fits(line, b"serial 256") {
+        Some(256)
+    } else if fits(line, b"serial 512") {
+        Some(512)
+    } else if fits(line, b"serial 1024") {
+        Some(1024)
+    } else {
+        None
     }
-    other
-}
-
-fn line_of(device: Device) -> Whose
-    ensures { result ≡ whose_line device }
-{
-    match device {
-        Device::Nothing => Whose::Unknown,
-        Device::Reset => Whose::Resets,
-        Device::Clock => Whose::Clocks,
-        Device::Serial => Whose::Ports,
-    }
-}
-
-// Answers a line that no device with a state answers, from `at` on.
-pub fn plain(line: &[u8], whose: Whose, fresh: bool, out: &mut Block, at: usize) -> usize
-    requires { at + 4096 ≤ 65536 }
-    ensures puts { Puts out.old at (plain_says line.now whose fresh) out.new result }
-    ensures upper_bound { result ≤ at + 4096 }
-{
-    match whose {
-        Whose::Nobodys => at,
-        Whose::Resets => {
-            if fresh {
-                return put(out, at, b"i8042\n");
-            }
-            reset_lines::answer(line, out, at)
-        }
-        Whose::Unknown => unknown(out, at),
-        Whose::Clocks => unknown(out, at),
-        Whose::Ports => unknown(out, at),
-    }
-}
-
-// `eight_words` tells the proof that a clock's words have 32 bits, and does nothing.
-pub fn clock(
-    line: &[u8],
-    fresh: bool,
-    clocks: Clocks,
-    out: &mut Block,
-    at: usize,
-) -> clock_lines::Said
-    requires { at + 4096 ≤ 65536 }
-    ensures put_bound { result.put ≤ at + 4096 }
-    ensures begins_clock { fresh ≡ true → BeginsClock clocks out.old at result out.new }
-    ensures answers_clock { fresh ≡ false → AnswersClock line.now clocks out.old at result out.new }
-    ensures words { Words result.clocks.clock }
-{
-    if fresh {
-        let clocks = clock_lines::begin(clocks);
-        let clock = clocks.clock;
-        eight_words(&clock);
-        let put = put(out, at, b"clock\n");
-        return clock_lines::Said { clocks, put };
-    }
-    let said = clock_lines::answer(line, clocks, out, at);
-    let put = said.put;
-    let after = said.clocks;
-    let clock = after.clock;
-    eight_words(&clock);
-    clock_lines::Said { clocks: after, put }
-}
-
-// A line that names the port is its own answer.
-pub fn serial(
-    line: &[u8],
-    fresh: bool,
-    ports: Ports,
-    out: &mut Block,
-    at: usize,
-) -> serial_lines::Said
-    requires at_bound { at + 4096 ≤ 65536 }
-    requires line_value { fresh ≡ true → is_size (size_named line.now) ≡ true }
-    ensures put_bound { result.put ≤ at + 4096 }
-    ensures begins_serial { fresh ≡ true → BeginsSerial line.now ports out.old at result out.new }
-    ensures answers_serial { fresh ≡ false → AnswersSerial line.now ports out.old at result out.new }
-{
-    if fresh {
-        let ports = serial_lines::begin(ports, size_named(line));
-        let a = put(out, at, line);
-        let put = put(out, a, b"\n");
-        return serial_lines::Said { ports, put };
-    }
-    serial_lines::answer(line, ports, out, at)
 }

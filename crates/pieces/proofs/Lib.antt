@@ -1,4 +1,3 @@
 pub mod Cutting
 mod Finding
 pub mod Lines
-mod Moving

@@ -18,11 +18,11 @@ pub record Cuts (from seen end : ℕ) (r : Cut) : Type 0 where
 abbrev pub settle_of : State → State
 settle_of s =
     let count = s.end - s.from in
-    record { from = 0; seen = count; end = count; put = s.put; ended = s.ended; passes = s.passes; full = s.full }
+    record { from = 0; seen = count; end = count; ended = s.ended; passes = s.passes; full = s.full }
 
 abbrev pub close_of : State → State
 close_of s =
-    record { from = s.from; seen = s.seen; end = s.end + 1; put = s.put; ended = true; passes = s.passes; full = s.full }
+    record { from = s.from; seen = s.seen; end = s.end + 1; ended = true; passes = s.passes; full = s.full }
 
 -- What is held of the current line stands in front, and nothing else is held.
 pub record Settles (held : List ℕ) (s : State) (held' : List ℕ) (r : State) : Type 0 where

@@ -31,6 +31,7 @@ pub struct Cut {
 
 // Cuts the current line off, which starts at `from` and has no newline before `seen`. Where it has
 // none before `end` either it stays the current one, unless it is too long already.
+#[tactic(auto, using(std::proofs::lemmas::Bool::Decides::nat_tests), unfolding(crate::specs::Cutting::cut_of))]
 pub fn next_line(all: &[u8], from: usize, seen: usize, end: usize, passes: bool) -> Cut
     requires from_le_seen { from ≤ seen }
     requires seen_lt_end { seen < end }
@@ -40,29 +41,29 @@ pub fn next_line(all: &[u8], from: usize, seen: usize, end: usize, passes: bool)
 {
     let stop = find(all, seen, end, b'\n');
     if stop < end {
-        return Cut {
+        Cut {
             kind: kind_of(&all[from..stop], passes),
             stop,
             from: stop + 1,
             seen: stop + 1,
             passes: false,
-        };
-    }
-    if end - from <= LONGEST {
-        return Cut {
+        }
+    } else if end - from <= LONGEST {
+        Cut {
             kind: Kind::Silent,
             stop,
             from,
             seen: end,
             passes,
-        };
-    }
-    Cut {
-        kind: kind_of(&all[from..end], passes),
-        stop,
-        from: end,
-        seen: end,
-        passes: true,
+        }
+    } else {
+        Cut {
+            kind: kind_of(&all[from..end], passes),
+            stop,
+            from: end,
+            seen: end,
+            passes: true,
+        }
     }
 }
 
@@ -81,20 +82,14 @@ fn find(all: &[u8], from: usize, to: usize, byte: u8) -> usize
 }
 
 // `passes` says that `line` is the rest of one that was too long.
+#[tactic(auto, using(std::proofs::lemmas::Bool::Decides::nat_tests), unfolding(crate::specs::Cutting::kind_of))]
 fn kind_of(line: &[u8], passes: bool) -> Kind
     ensures { result ≡ kind_of line.now passes }
 {
-    if passes {
-        return Kind::Silent;
+    match line {
+        _ if passes => Kind::Silent,
+        [] | [b'#', ..] => Kind::Silent,
+        _ if line.len() > LONGEST => Kind::TooLong,
+        _ => Kind::Whole,
     }
-    if line.len() == 0 {
-        return Kind::Silent;
-    }
-    if line[0] == b'#' {
-        return Kind::Silent;
-    }
-    if line.len() > LONGEST {
-        return Kind::TooLong;
-    }
-    Kind::Whole
 }

@@ -3,95 +3,81 @@
 
 pub mod cut;
 
-ghost use Rattle.std.specs.Prelude.{◌+◌, ◌-◌, ◌≤◌, ◌<◌, ◌≡◌, length, take};
-ghost use Rattle.pieces.specs.Cutting.{bytes_from};
+ghost use Rattle.std.specs.Prelude.{◌+◌, ◌≤◌, ◌<◌, ◌≡◌};
 ghost use Rattle.pieces.specs.Inside.{Settles, Closes};
 ghost use Rattle.pieces.specs.Pieces.{Sound, Answered, start_of, came_of};
 
 use words::Block;
-use words::put::put;
 
 // Where the reading stands. The current line starts at `from`, no newline stands between there and
 // `seen`, and `end` bytes are held; `ended` says that no more will come. `passes` says that the
-// current line was too long: its answer is given, and what is left of it is passed over. `put`
-// bytes of answers wait to be written; `full` says that lines wait for that.
+// current line was too long: its answer is given, and what is left of it is passed over. `full` says
+// that lines wait until answers are written.
+//
+// What is held lies beside it: lines of it are read while the state changes.
+//
+// That a state is `Sound` stands in clauses and in no field of it: the runs of `lines` go by what
+// `settle_of` and `came_of` make of any state.
 #[derive(Clone, Copy)]
 pub struct State {
     pub from: usize,
     pub seen: usize,
     pub end: usize,
-    pub put: usize,
     pub ended: bool,
     pub passes: bool,
     pub full: bool,
 }
 
-// Nothing is read yet.
-pub fn start() -> State
-    ensures sound { Sound result }
-    ensures answered { Answered result }
-    ensures value { result ≡ start_of }
-{
-    State {
-        from: 0,
-        seen: 0,
-        end: 0,
-        put: 0,
-        ended: false,
-        passes: false,
-        full: false,
+impl State {
+    // Nothing is read yet.
+    pub fn start() -> State
+        ensures sound { Sound result }
+        ensures answered { Answered result }
+        ensures value { result ≡ start_of }
+    {
+        State {
+            from: 0,
+            seen: 0,
+            end: 0,
+            ended: false,
+            passes: false,
+            full: false,
+        }
     }
-}
 
-// Moves the current line to the start of `held`, so that there is space to read.
-pub fn settle(held: &mut Block, mut state: State) -> State
-    requires sound { Sound state }
-    requires seen_value { state.seen ≡ state.end }
-    ensures sound_2 { Sound result }
-    ensures end_bound { result.end ≤ 8192 }
-    ensures settles { Settles held.old state held.new result }
-{
-    let from = state.from;
-    let count = state.end - from;
-    if from > 0 {
-        move_down(held, from, count);
+    // Moves the current line to the start of `held`, so that there is space to read.
+    pub fn settle(&mut self, held: &mut Block)
+        requires sound { Sound self.old }
+        requires seen_value { self.old.seen ≡ self.old.end }
+        ensures sound_2 { Sound self.new }
+        ensures end_bound { self.new.end ≤ 8192 }
+        ensures settles { Settles held.old self.old held.new self.new }
+    {
+        held.copy_within(self.from..self.end, 0);
+        self.end -= self.from;
+        self.seen = self.end;
+        self.from = 0;
     }
-    state.from = 0;
-    state.seen = count;
-    state.end = count;
-    state
-}
 
-fn move_down(held: &mut [u8], from: usize, count: usize)
-    requires { from + count ≤ length held.old }
-    ensures { take count held.new ≡ bytes_from from (from + count) held.old }
-{
-    let mut i = 0;
-    while i < count {
-        held[i] = held[from + i];
-        i += 1;
+    // `count` more bytes are held.
+    pub fn came(&mut self, count: usize)
+        requires sound { Sound self.old }
+        requires count_bound { self.old.end + count ≤ 65536 }
+        ensures sound_2 { Sound self.new }
+        ensures value { self.new ≡ came_of self.old count }
+    {
+        self.end += count;
     }
-}
 
-// The state once `count` more bytes are held.
-pub fn came(mut state: State, count: usize) -> State
-    requires sound { Sound state }
-    requires count_bound { state.end + count ≤ 65536 }
-    ensures sound_2 { Sound result }
-    ensures value { result ≡ came_of state count }
-{
-    state.end += count;
-    state
-}
-
-// The state once the input has ended: the current line, which lacks its newline, gets one.
-pub fn close(held: &mut Block, mut state: State) -> State
-    requires sound { Sound state }
-    requires end_bound { state.end < 65536 }
-    ensures sound_2 { Sound result }
-    ensures closes { Closes held.old state held.new result }
-{
-    state.end = put(held, state.end, b"\n");
-    state.ended = true;
-    state
+    // The input has ended: the current line, which lacks its newline, gets one.
+    pub fn close(&mut self, held: &mut Block)
+        requires sound { Sound self.old }
+        requires end_bound { self.old.end < 65536 }
+        ensures sound_2 { Sound self.new }
+        ensures closes { Closes held.old self.old held.new self.new }
+    {
+        held[self.end] = b'\n';
+        self.end += 1;
+        self.ended = true;
+    }
 }

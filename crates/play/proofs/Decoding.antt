@@ -11,6 +11,9 @@ use lib.Dec.{eqb, leb, lit≤}
 use borrow.Author.Tests.{le-leb, lt-leb, eq-eqb, ne_eqb}
 use Rattle.common.specs.Lists.{some}
 use Rattle.runs.specs.Run.{Op, read, write, input, room}
+use Rattle.play.specs.declared.Kind as code
+use Rattle.play.specs.declared.Kind.TheVariants.{Read, Write, Input, Room}
+use Rattle.play.specs.Kinds.{number_of}
 use Rattle.play.specs.Play.{input_bytes, op_of, Decoded, malformed, asks, before, decode, encode_op, encode, offered, all_offered, is_run}
 
 -- ---- One operation
@@ -141,6 +144,33 @@ module _ (ops inputs : List ℕ) (at from : ℕ) (s : Scanned ops inputs at from
       go : (l : List ℕ) → length l + from ≡ length inputs → is_run (cond (some l) malformed (asks [])) ≡ eqb from (length inputs)
       go [] e = sym (eq-eqb from (length inputs) (omega arith))
       go (x ∷ l) e = sym (ne_eqb from (length inputs) (λ z. omega arith))
+
+-- As the code goes on, by an operation of three bytes.
+pub few : (kind : code.Kind) → number_of kind ≤ 3
+few Read = omega arith
+few Write = omega arith
+few Input = omega arith
+few Room = omega arith
+
+module _ (ops inputs : List ℕ) (i from : ℕ) (s : Scanned ops inputs (3 * i) from) (even : length ops % 3 ≡ 0) (m : i < length ops / 3) where
+  inside_ops : 3 * i < length ops
+  inside_ops = omega arith
+
+  pub scanned_no_kind : 3 < get_or ops (3 * i) 0 → false ≡ is_run (decode ops inputs)
+  scanned_no_kind h = scanned_kind ops inputs (3 * i) from s even inside_ops h
+
+  module _ {n : ℕ} (kind : code.Kind) (k : get_or ops (3 * i) 0 ≡ number_of kind)
+      (e : n ≡ input_bytes (number_of kind) (get_or ops (3 * i + 1) 0) (get_or ops (3 * i + 2) 0)) where
+    takes : n ≡ takes_at ops (3 * i)
+    takes = rw (← k) at e
+
+    pub scanned_few : length inputs - from < n → false ≡ is_run (decode ops inputs)
+    scanned_few h = scanned_short ops inputs (3 * i) from s even inside_ops (rw takes at h)
+
+    pub scanned_next : n ≤ length inputs - from → Scanned ops inputs (3 * (i + 1)) (from + n)
+    scanned_next h =
+        let t : 3 * (i + 1) ≡ 3 * i + 3 = omega arith in
+        rw (t, takes) (scanned_more ops inputs (3 * i) from s even inside_ops (rw k (few kind)) (rw takes at h))
 
 -- ---- What is written of a run is read as that run
 

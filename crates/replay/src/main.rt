@@ -6,34 +6,34 @@
 
 ghost use Rattle.lines.specs.Runs.{Left};
 
-use exchange::{ENDLESS, exchange};
+use exchange::exchange;
 use lines::Turn;
 use std::io::{Eprint, Read, Write};
 use words::Block;
+use words::out::Out;
 
 // Some run, of some input, comes to the turn that it answers. How far it gets is not promised: one
-// that stops at once would promise the same.
+// that stops at once would promise the same. How long the input is, nothing says: no run uses up the
+// turns that the loop has.
+#[tactic(auto, using(crate::proofs::Turns::begins, crate::proofs::Turns::goes_on))]
 fn run<I: Read, O: Write, E: Eprint>(
     input: &mut I,
     output: &mut O,
     errors: &E,
     held: &mut Block,
-    out: &mut Block,
+    out: &mut Out,
 ) -> Turn
     ensures { Left out.new result }
 {
-    let mut turn = lines::start();
-    let mut turns = ENDLESS;
-    while turns > 0 {
-        let state = turn.state;
-        let next = exchange(input, output, errors, held, out, state);
-        if !next.more {
+    out.clear();
+    let mut turn = Turn::start();
+    for _ in 0..u64::MAX {
+        let mut state = turn.state;
+        if !exchange(input, output, errors, held, out, &mut state) {
             return turn;
         }
-        let devices = turn.devices;
-        let read = next.state;
-        turn = lines::answer(held, devices, out, read);
-        turns -= 1;
+        turn.state = state;
+        turn.answer(held, out);
     }
     turn
 }
@@ -42,6 +42,6 @@ fn main(rt: HostRuntime) {
     let mut input = rt.stdin();
     let mut output = rt.stdout();
     let mut held: Block = [0; 65536];
-    let mut out: Block = [0; 65536];
+    let mut out = Out::new();
     run(&mut input, &mut output, &rt, &mut held, &mut out);
 }

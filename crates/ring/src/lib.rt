@@ -1,4 +1,5 @@
-// A ring of 1,024 places: bytes lie one behind another from `start` on and go round at its end.
+// A ring of 1,024 places: bytes lie one behind another from `start` on and go round at its end. Where they
+// start and how many they are is told beside it: the interface for C lends that in memory of its own.
 #![tactic(auto)]
 
 ghost use Rattle.std.specs.Prelude.{◌≡◌, ◌+◌, ◌%◌, ◌<◌, ◌≤◌, [], ◌∷◌, length, take, slice_index};
@@ -8,14 +9,7 @@ pub type Ring = [u8; 1024];
 
 pub const PLACES: u32 = 1024;
 
-const ROUND: usize = 1024;
-
-// It is as long as its type says. A proof learns it from this call, which does nothing.
-pub fn ring_len(ring: &Ring)
-    ensures { length ring.now ≡ places_here }
-{
-    let all: &[u8] = ring;
-}
+const ROUND: usize = PLACES as usize;
 
 // The place of the byte behind the n that lie from `start` on.
 fn place(start: u32, n: u32) -> usize
@@ -29,7 +23,7 @@ fn place(start: u32, n: u32) -> usize
 pub fn next(start: u32) -> u32
     ensures { result % places_here ≡ (start + 1) % places_here }
 {
-    std::num::wrapping_add_u32(start, 1)
+    start.wrapping_add(1)
 }
 
 // The first byte.
@@ -44,7 +38,6 @@ pub fn push(ring: &mut Ring, start: u32, n: u32, byte: u8)
     requires { n < places_here }
     ensures { Put places_here ring.old start n (byte ∷ []) ring.new (n + 1) }
 {
-    ring_len(ring);
     ring[place(start, n)] = byte;
 }
 
@@ -53,12 +46,9 @@ pub fn fill(ring: &mut Ring, start: u32, n: u32, input: &[u8], k: usize)
     requires { (n + k ≤ places_here) × (k ≤ length input.now) }
     ensures { Put places_here ring.old start n (take k input.now) ring.new (n + k) }
 {
-    ring_len(ring);
     let from = place(start, n);
-    let mut i: usize = 0;
-    while i < k {
-        ring[(from + i) % ROUND] = input[i];
-        i += 1;
+    for (i, &byte) in input[..k].iter().enumerate() {
+        ring[(from + i) % ROUND] = byte;
     }
 }
 
@@ -67,12 +57,8 @@ pub fn unroll(ring: &Ring, start: u32, n: u32, memory: &mut Ring)
     requires { n ≤ places_here }
     ensures { Unrolled places_here ring.now start n memory.old memory.new }
 {
-    ring_len(memory);
     let from = (start % PLACES) as usize;
-    let end = n as usize;
-    let mut i: usize = 0;
-    while i < end {
+    for i in 0..n as usize {
         memory[i] = ring[(from + i) % ROUND];
-        i += 1;
     }
 }

@@ -1,7 +1,8 @@
 -- What a write of IER is in the definition.
-use mathlib.Core.Path.{◌≡◌, sym, ◌∙◌}
-use mathlib.Core.Bool.{Bool, not}
+use mathlib.Core.Path.{◌≡◌}
+use mathlib.Core.Bool.{not}
 use mathlib.Core.List.{List}
+use Rattle.std.proofs.Common.{Option, unwrap_or}
 use Prim.Native.Nat.{ℕ, ◌*◌}
 use native.Mathlib.Omega.{arith}
 use lib.Dec.{eqb}
@@ -17,15 +18,12 @@ use Rattle.serial.proofs.Leaves.{waits_is}
 use Rattle.serial.proofs.Registers.{one_stored, then_stored, enabled}
 use Rattle.serial.proofs.Answering.{registers_alone}
 
--- IER is stored, and IIR is as it was.
-pub kept_iir : (regs : List ℕ) (ier : ℕ) {iir : ℕ} → iir ≡ get_or regs 2 0 → iir ≡ get_or (set regs 1 ier) 2 0
-kept_iir regs ier e = e ∙ sym (get_or-set_other regs 1 2 ier 0 (λ x. omega arith))
-
-pub writes_ier : (regs pos ring : List ℕ) → length regs ≡ 16 → (v w : ℕ) → w ≡ ier_stored v → {iir raises r : ℕ} {changes : Bool}
-    → Tells (enabling (get_or regs 1 0) w (get_or regs 2 0) (not (eqb (get_or pos 1 0) 0))) (get_or regs 2 0) iir raises changes 2
+-- IER is stored, and then IIR.
+pub writes_ier : (regs pos ring : List ℕ) → length regs ≡ 16 → (v w : ℕ) → w ≡ ier_stored v → {iir : Option ℕ} {raises r : ℕ}
+    → Tells (enabling (get_or regs 1 0) w (get_or regs 2 0) (not (eqb (get_or pos 1 0) 0))) (get_or regs 2 0) iir raises 2
     → r ≡ one_raise * raises
-    → Writes (λ q. write_ier q v) regs pos ring (set (set regs 1 w) 2 iir) pos ring r
+    → Writes (λ q. write_ier q v) regs pos ring (set (set regs 1 w) 2 (unwrap_or iir (get_or (set regs 1 w) 2 0))) pos ring r
 unfolding port_of write_ier
 writes_ier regs pos ring n v w s t h =
-    rw (waits_is regs pos ring, t.stored, s)
+    rw (waits_is regs pos ring, get_or-set_other regs 1 2 w 0 (λ x. omega arith), t.stored, s)
     (registers_alone n (then_stored 2 _ (omega arith) (one_stored regs 1 _ (omega arith))) (enabled regs pos ring n _ _) (rw (h, t.raised, s) (omega arith)))

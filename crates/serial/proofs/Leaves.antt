@@ -1,5 +1,5 @@
 -- What each answer of the leaves is in the definition.
-use mathlib.Core.Path.{◌≡◌, refl, sym, ◌∙◌}
+use mathlib.Core.Path.{◌≡◌, refl, sym}
 use mathlib.Core.Bool.{false, not}
 use mathlib.Core.List.{List, [], ◌∷◌}
 use Prim.Native.Nat.{ℕ, zero, suc, min}
@@ -13,11 +13,6 @@ use Rattle.ring.specs.Ring.{queue}
 use Rattle.line_status.specs.LineStatus.{lsr_after_read}
 use Rattle.serial.specs.Layout.{places, start_of, port_of}
 use Rattle.serial.specs.Inside.{WaitAfterRead}
-
--- ---- IIR stays where it is to become what it is
-
-pub stays : (regs : List ℕ) {new : ℕ} → new ≡ get_or regs 2 0 → regs ≡ set regs 2 new
-stays regs e = sym (set-get_or regs 2 0) ∙ rw e
 
 -- ---- LSR stays where IIR is stored
 

@@ -2,7 +2,6 @@
 pub mod Leaves
 pub mod Addressing
 pub mod Registers
-pub mod Spares
 pub mod Sizes
 pub mod Answering
 pub mod Emptying

@@ -1,6 +1,6 @@
 -- No kind of interrupt is enabled: what the calls that are made then promise each other.
 use mathlib.Core.Path.{◌≡◌, refl, sym}
-use mathlib.Core.Bool.{Bool, true, false, cond, not}
+use mathlib.Core.Bool.{Bool, cond, not}
 use mathlib.Core.List.{List}
 use Prim.Native.Nat.{ℕ}
 use native.Mathlib.Omega.{arith}
@@ -26,11 +26,3 @@ module _ (regs : List ℕ) (quiet : Quiet (get_or regs 1 0)) where
   quiet_received pos n waits w e l =
       let q = quiet_came (get_or regs 1 0) quiet (get_or regs 2 0) (not (eqb (get_or pos 1 0) 0)) in
       record { stored = rw (e, l, e, lsr_stays regs _, w, q.0) refl; counted = refl; raised = sym q.1; once = omega arith }
-
--- IIR as the first bytes come, and as more do
-pub first_comes : (regs : List ℕ) (waits : Bool) → waits ≡ false
-    → set regs 2 none_pending ≡ set regs 2 (cond waits (get_or regs 2 0) none_pending)
-first_comes regs waits e = rw e refl
-
-pub more_come : (regs : List ℕ) (waits : Bool) → waits ≡ true → regs ≡ set regs 2 (cond waits (get_or regs 2 0) none_pending)
-more_come regs waits e = rw e (sym (set-get_or regs 2 0))

@@ -26,13 +26,9 @@ unfolding port_of
 size_is regs r e pos ring = e
 
 module _ (regs pos : List ℕ) where
-  pub no_room_left : size_of regs ≤ get_or pos 1 0 → HasRoom regs pos 0
+  pub room_is : (r : ℕ) → r ≡ size_of regs - get_or pos 1 0 → HasRoom regs pos r
   unfolding port_of
-  no_room_left h ring = omega (arith, waiting_length regs pos ring, size_few regs)
-
-  pub room_left : (r : ℕ) → get_or pos 1 0 < size_of regs → r ≡ size_of regs - get_or pos 1 0 → HasRoom regs pos r
-  unfolding port_of
-  room_left r h e ring = omega (arith, waiting_length regs pos ring, counts_itself regs pos h)
+  room_is r e ring = omega (arith, waiting_length regs pos ring, size_few regs)
 
 -- k of len bytes are taken
 fits : (size n k len : ℕ) → n < size → size ≤ places → k ≡ min (size - n) len → n + k ≤ places

@@ -1,16 +1,13 @@
 -- The lent memory taken apart: ten registers and two positions, and behind them what no access changes.
 use mathlib.Core.Path.{◌≡◌, refl, sym, ap, ap₂, ◌∙◌}
-use mathlib.Core.Bool.{true, false}
 use mathlib.Core.List.{List, [], ◌∷◌, ◌++◌}
 use Prim.Native.Nat.{ℕ, ◌≤◌, ◌<◌}
 use native.Mathlib.Omega.{arith}
 use lib.ListN.{length, set, take, drop, length-set}
 use lib.Seq.{drop-set-lt}
-use Rattle.serial.specs.Port.{Port, Settings, is_size, with_settings, with_receiver, put_ier}
-use Rattle.common.specs.Answer.{refused_bit}
+use Rattle.serial.specs.Port.{Port, Settings, with_settings, with_receiver, put_ier}
 use Rattle.ring.specs.Ring.{queue}
-use Rattle.serial.specs.Layout.{places, size_by, start_of, count_of, port_of, spare_registers}
-use Rattle.serial.specs.Calls.{MakesFresh, Makes}
+use Rattle.serial.specs.Layout.{places, start_of, count_of, port_of, spare_registers}
 
 ten : (P : List ℕ → Type 0) → ((a b c d e f g h i j : ℕ) (l : List ℕ) → P (a ∷ b ∷ c ∷ d ∷ e ∷ f ∷ g ∷ h ∷ i ∷ j ∷ l)) → (l : List ℕ)
     → length l ≡ 16 → P l
@@ -30,16 +27,6 @@ two : (P : List ℕ → Type 0) → ((a b : ℕ) (l : List ℕ) → P (a ∷ b �
 two P t (a ∷ b ∷ l) n = t a b l
 two P t [] n = absurd (omega arith)
 two P t (a ∷ []) n = absurd (omega arith)
-
-six : (P : List ℕ → Type 0) → ((a b c d e f : ℕ) → P (a ∷ b ∷ c ∷ d ∷ e ∷ f ∷ [])) → (l : List ℕ) → length l ≡ 6 → P l
-six P t (a ∷ b ∷ c ∷ d ∷ e ∷ f ∷ []) n = t a b c d e f
-six P t (a ∷ b ∷ c ∷ d ∷ e ∷ f ∷ g ∷ l) n = absurd (omega arith)
-six P t [] n = absurd (omega arith)
-six P t (a ∷ []) n = absurd (omega arith)
-six P t (a ∷ b ∷ []) n = absurd (omega arith)
-six P t (a ∷ b ∷ c ∷ []) n = absurd (omega arith)
-six P t (a ∷ b ∷ c ∷ d ∷ []) n = absurd (omega arith)
-six P t (a ∷ b ∷ c ∷ d ∷ e ∷ []) n = absurd (omega arith)
 
 -- ---- Registers are stored, and the others stay: the spare ones, and the one that tells the size
 
@@ -114,40 +101,3 @@ module _ (pos : List ℕ) (k : ℕ) (n : length pos ≡ 4) (h : k ≤ places) wh
 
   pub placed : (i : ℕ) → (start_of (set (set pos 0 i) 1 k) ≡ i) × (count_of (set (set pos 0 i) 1 k) ≡ k)
   placed i = two (λ l. (start_of (set (set l 0 i) 1 k) ≡ i) × (count_of (set (set l 0 i) 1 k) ≡ k)) (λ a b l. (refl, omega arith)) pos n
-
--- ---- Sixteen stores and four make a fresh port
-
-module _ (regs pos : List ℕ) (n : length regs ≡ 16) (m : length pos ≡ 4) (told : ℕ) where
-  abbrev ten_stored : List ℕ → List ℕ
-  ten_stored l = set (set (set (set (set (set (set (set (set (set l 0 0x0c) 1 0) 2 1) 3 3) 4 8) 5 0x60) 6 0xb0) 7 0) 8 0) 9 0
-
-  abbrev all_stored : List ℕ → List ℕ
-  all_stored l = set (set (set (set (set (set (ten_stored l) 10 0) 11 0) 12 0) 13 0) 14 0) 15 told
-
-  abbrev fresh_regs : List ℕ
-  fresh_regs = 0x0c ∷ 0 ∷ 1 ∷ 3 ∷ 8 ∷ 0x60 ∷ 0xb0 ∷ 0 ∷ 0 ∷ 0 ∷ 0 ∷ 0 ∷ 0 ∷ 0 ∷ 0 ∷ told ∷ []
-
-  registers : all_stored regs ≡ fresh_regs
-  registers =
-      ten (λ l. length l ≡ 16 → all_stored l ≡ fresh_regs)
-      (λ a b c d e f g h i j l k. six (λ r. all_stored (a ∷ b ∷ c ∷ d ∷ e ∷ f ∷ g ∷ h ∷ i ∷ j ∷ r) ≡ fresh_regs) (λ a b c d e f. refl) l (omega arith)) regs n n
-
-  four : (l : List ℕ) → length l ≡ 4 → set (set (set (set l 0 0) 1 0) 2 0) 3 0 ≡ 0 ∷ 0 ∷ 0 ∷ 0 ∷ []
-  four (a ∷ b ∷ c ∷ d ∷ []) e = refl
-  four [] e = absurd (omega arith)
-  four (a ∷ []) e = absurd (omega arith)
-  four (a ∷ b ∷ []) e = absurd (omega arith)
-  four (a ∷ b ∷ c ∷ []) e = absurd (omega arith)
-  four (a ∷ b ∷ c ∷ d ∷ f ∷ l) e = absurd (omega arith)
-
-  pub makes_fresh : MakesFresh (size_by told) (all_stored regs) (set (set (set (set pos 0 0) 1 0) 2 0) 3 0)
-  unfolding port_of queue
-  makes_fresh = rw (registers, four pos m) (record { holds = λ ring. refl; placed = refl; spares_zero = refl })
-
-module _ (size : ℕ) (regs pos : List ℕ) where
-  pub makes : {made : ℕ} {regs' pos' : List ℕ} → is_size size ≡ true → made ≡ size → MakesFresh made regs' pos'
-      → Makes size regs pos regs' pos' 0
-  makes e f m = rw (e, ← f) (refl, m)
-
-  pub refuses_size : is_size size ≡ false → Makes size regs pos regs pos refused_bit
-  refuses_size e = rw e (refl, (refl, refl))

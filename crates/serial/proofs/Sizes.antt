@@ -3,13 +3,13 @@ use mathlib.Core.Path.{◌≡◌, refl, sym, subst}
 use mathlib.Core.Logic.{◌⊎◌, inl, inr}
 use mathlib.Core.Bool.{Bool, true, false, ◌||◌}
 use mathlib.Core.List.{List}
-use Prim.Native.Nat.{ℕ, ◌+◌, ◌/◌, ◌%◌, ◌≤◌, ◌<◌}
+use Prim.Native.Nat.{ℕ, ◌≤◌, ◌<◌}
 use native.Mathlib.Omega.{arith}
 use lib.Dec.{eqb}
 use lib.ListN.{get_or}
-use borrow.Author.Tests.{eqb-true, ne_eqb}
+use borrow.Author.Tests.{eqb-true}
 use Rattle.serial.specs.Port.{is_size}
-use Rattle.serial.specs.Layout.{places, size_by, size_of, count_of}
+use Rattle.serial.specs.Layout.{places, size_of, count_of}
 
 -- No port has room for more bytes than the ring has places.
 pub size_few : (regs : List ℕ) → size_of regs ≤ places
@@ -41,28 +41,3 @@ module _ (P : ℕ → Type 0) (s : ℕ) where
 
 pub size_at_least : (s : ℕ) → is_size s ≡ true → 16 ≤ s
 size_at_least s = of_sizes (λ n. 16 ≤ n) s (omega arith) (omega arith) (omega arith) (omega arith) (omega arith) (omega arith) (omega arith)
-
-pub size_at_most : (s : ℕ) → is_size s ≡ true → s ≤ 1024
-size_at_most s = of_sizes (λ n. n ≤ 1024) s (omega arith) (omega arith) (omega arith) (omega arith) (omega arith) (omega arith) (omega arith)
-
-pub told_is : (s : ℕ) → is_size s ≡ true → size_by ((s + 960) / 4 % 256) ≡ s
-told_is s = of_sizes (λ n. size_by ((n + 960) / 4 % 256) ≡ n) s refl refl refl refl refl refl refl
-
--- A number is one of the seven, or none.
-abbrev Seven : ℕ → Type 0
-Seven s = (s ≡ 16) ⊎ ((s ≡ 32) ⊎ ((s ≡ 64) ⊎ ((s ≡ 128) ⊎ ((s ≡ 256) ⊎ ((s ≡ 512) ⊎ (s ≡ 1024))))))
-
-pub is_one : (s : ℕ) → Seven s → true ≡ is_size s
-is_one s (inl e) = rw e refl
-is_one s (inr (inl e)) = rw e refl
-is_one s (inr (inr (inl e))) = rw e refl
-is_one s (inr (inr (inr (inl e)))) = rw e refl
-is_one s (inr (inr (inr (inr (inl e))))) = rw e refl
-is_one s (inr (inr (inr (inr (inr (inl e)))))) = rw e refl
-is_one s (inr (inr (inr (inr (inr (inr e)))))) = rw e refl
-
-pub is_none : (s : ℕ) → (Seven s → ⊥) → false ≡ is_size s
-is_none s n =
-    rw (ne_eqb s 16 (λ e. n (inl e)), ne_eqb s 32 (λ e. n (inr (inl e))), ne_eqb s 64 (λ e. n (inr (inr (inl e)))))
-    (rw (ne_eqb s 128 (λ e. n (inr (inr (inr (inl e))))), ne_eqb s 256 (λ e. n (inr (inr (inr (inr (inl e)))))))
-    (rw (ne_eqb s 512 (λ e. n (inr (inr (inr (inr (inr (inl e)))))))) (sym (ne_eqb s 1024 (λ e. n (inr (inr (inr (inr (inr (inr e)))))))))))

@@ -5,7 +5,7 @@ ghost use Rattle.serial.specs.Calls.{Writes};
 ghost use Rattle.serial.specs.Inside.{Flushed};
 
 use crate::memory::{COUNT, FCR, IER, IIR, LSR, Pos, Regs};
-use crate::{memory, waiting};
+use crate::waiting;
 use common::answer::FLUSHED;
 
 // The answer: how many bytes are thrown away.
@@ -13,8 +13,6 @@ pub fn write(regs: &mut Regs, pos: &mut Pos, value: u8) -> u32
     ensures { (ring : List ℕ) → Writes (λ p. write_fcr p value) regs.old pos.old ring
         regs.new pos.new ring result }
 {
-    memory::regs_len(regs);
-    memory::pos_len(pos);
     regs[FCR] = value & 0xc9;
     if value & 0x02 == 0 {
         return 0;
@@ -26,8 +24,6 @@ pub fn write(regs: &mut Regs, pos: &mut Pos, value: u8) -> u32
 fn flush(regs: &mut Regs, pos: &mut Pos) -> u32
     ensures { Flushed regs.old pos.old regs.new pos.new result }
 {
-    memory::regs_len(regs);
-    memory::pos_len(pos);
     let n = waiting::count(pos);
     regs[IIR] = interrupts::after_data_read(regs[IER], regs[IIR], false);
     regs[LSR] = line_status::after_read(regs[LSR], false);

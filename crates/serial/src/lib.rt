@@ -21,43 +21,32 @@ use memory::{
     COUNT, DLL, DLM, FCR, IER, IIR, LCR, LSR, MCR, MSR, Pos, Regs, Ring, SCR, SIZE, START,
 };
 
-// A fresh port in which `size` bytes may wait; its ring may hold anything.
+// A fresh port in which `size` bytes may wait; its ring may hold anything. The answer is 0 or REFUSED: here
+// and below it is one word with its parts as bits, which the interface for C hands on as it is.
 pub fn init(regs: &mut Regs, pos: &mut Pos, size: u32) -> u32
     ensures { Makes size regs.old pos.old regs.new pos.new result }
 {
     if waiting::is_size(size) {
         make(regs, pos, waiting::register_for(size));
-        return 0;
+        0
+    } else {
+        REFUSED
     }
-    REFUSED
 }
 
 // A fresh port whose size `told` tells.
 fn make(regs: &mut Regs, pos: &mut Pos, told: u8)
     ensures { MakesFresh (size_by told) regs.new pos.new }
 {
-    memory::regs_len(regs);
-    memory::pos_len(pos);
+    *regs = [0; 16];
     regs[DLL] = 0x0c;
-    regs[IER] = 0x00;
     regs[IIR] = 0x01;
     regs[LCR] = 0x03;
     regs[MCR] = 0x08;
     regs[LSR] = 0x60;
     regs[MSR] = 0xb0;
-    regs[SCR] = 0x00;
-    regs[DLM] = 0x00;
-    regs[FCR] = 0;
-    regs[10] = 0;
-    regs[11] = 0;
-    regs[12] = 0;
-    regs[13] = 0;
-    regs[14] = 0;
     regs[SIZE] = told;
-    pos[START] = 0;
-    pos[COUNT] = 0;
-    pos[2] = 0;
-    pos[3] = 0;
+    *pos = [0; 4];
 }
 
 // LCR 0x80: offsets 0 and 1 are the divisor's.
@@ -72,10 +61,7 @@ fn is_status_or_control(offset: u8) -> bool
     ensures le_offset { result ≡ true → (3 ≤ offset) × (offset ≤ 5) }
     ensures fact { result ≡ false → 3 ≤ offset → offset ≤ 5 → ⊥ }
 {
-    if offset < 3 {
-        return false;
-    }
-    offset < 6
+    matches!(offset, 3..=5)
 }
 
 // The guest reads at `offset`: the reply, and the raises.
@@ -85,32 +71,25 @@ pub fn read(regs: &mut Regs, pos: &mut Pos, ring: &Ring, offset: u8) -> u32
 {
     if offset == 0 {
         if is_open(regs[LCR]) {
-            return memory::wide(regs[DLL]);
+            return u32::from(regs[DLL]);
         }
         return receiver::read_rbr(regs, pos, ring);
     }
     if is_status_or_control(offset) {
-        return memory::wide(memory::at(regs, offset));
+        return u32::from(memory::at(regs, offset));
     }
     match offset {
         1 => {
             if is_open(regs[LCR]) {
-                return memory::wide(regs[DLM]);
+                u32::from(regs[DLM])
+            } else {
+                u32::from(regs[IER])
             }
-            return memory::wide(regs[IER]);
         }
-        2 => {
-            return iir::read(regs, pos);
-        }
-        6 => {
-            return memory::wide(modem::msr_read(regs[MCR], regs[MSR]));
-        }
-        7 => {
-            return memory::wide(regs[SCR]);
-        }
-        _ => {
-            return 0;
-        }
+        2 => iir::read(regs, pos),
+        6 => u32::from(modem::msr_read(regs[MCR], regs[MSR])),
+        7 => u32::from(regs[SCR]),
+        _ => 0,
     }
 }
 
@@ -119,7 +98,6 @@ pub fn write(regs: &mut Regs, pos: &mut Pos, ring: &mut Ring, offset: u8, value:
     ensures { Writes (λ p. write_of p offset value) regs.old pos.old ring.old
         regs.new pos.new ring.new result }
 {
-    memory::regs_len(regs);
     if offset < 2 {
         if is_open(regs[LCR]) {
             if offset == 0 {
@@ -135,24 +113,20 @@ pub fn write(regs: &mut Regs, pos: &mut Pos, ring: &mut Ring, offset: u8, value:
         return ier::write(regs, pos, value);
     }
     match offset {
-        2 => {
-            return fcr::write(regs, pos, value);
-        }
+        2 => fcr::write(regs, pos, value),
         3 => {
             regs[LCR] = value;
-            return 0;
+            0
         }
         4 => {
             regs[MCR] = value;
-            return 0;
+            0
         }
         7 => {
             regs[SCR] = value;
-            return 0;
+            0
         }
-        _ => {
-            return 0;
-        }
+        _ => 0,
     }
 }
 
@@ -173,9 +147,7 @@ pub fn input(regs: &mut Regs, pos: &mut Pos, ring: &mut Ring, input: &[u8]) -> u
     if size <= n {
         return REFUSED;
     }
-    memory::regs_len(regs);
-    memory::pos_len(pos);
-    let k = waiting::fitting(size - n, len);
+    let k = len.min((size - n) as usize);
     ring::fill(ring, pos[START], n, input, k);
     let taken = k as u32;
     taken + ONE_RAISE * receiver::receive(regs, pos, n + taken)
@@ -192,12 +164,7 @@ pub fn size(regs: &Regs) -> u32
 pub fn room(regs: &Regs, pos: &Pos) -> u32
     ensures { HasRoom regs.now pos.now result }
 {
-    let n = pos[COUNT];
-    let size = waiting::size(regs);
-    if n < size {
-        return size - n;
-    }
-    0
+    waiting::size(regs).saturating_sub(pos[COUNT])
 }
 
 // Whether the interrupt line is high now.

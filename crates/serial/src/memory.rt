@@ -1,4 +1,5 @@
-// The memory that a host lends for a port: its types, where each register and position lies in it, and how long it is.
+// The memory that a host lends for a port: its types, and where each register and position lies in it.
+// Three arrays side by side, and indices into them: so the interface for C lends them.
 ghost use Rattle.std.specs.Prelude.{◌≡◌, ◌≤◌, length, get_or, ◌↔◌, true};
 ghost use Rattle.serial.specs.Layout.{places, spare_registers, fresh_spare_registers};
 
@@ -44,38 +45,11 @@ pub const START: usize = 0;
 
 pub const COUNT: usize = 1;
 
-// Arrays are as long as their types say. A proof learns it from these calls, which do nothing.
-pub fn regs_len(regs: &Regs)
-    ensures { length regs.now ≡ 16 }
-{
-    let all: &[u8] = regs;
-}
-
-pub fn pos_len(pos: &Pos)
-    ensures { length pos.now ≡ 4 }
-{
-    let all: &[u32] = pos;
-}
-
-pub fn ring_len(ring: &Ring)
-    ensures { length ring.now ≡ places }
-{
-    let all: &[u8] = ring;
-}
-
 // The spare registers are 0, as in a fresh port.
 pub fn are_spares_zero(regs: &Regs) -> bool
     ensures { (result ≡ true) ↔ (spare_registers regs.now ≡ fresh_spare_registers) }
 {
-    regs_len(regs);
-    let mut i = SPARE;
-    while i < SIZE {
-        if regs[i] != 0 {
-            return false;
-        }
-        i += 1;
-    }
-    true
+    regs[SPARE..SIZE].iter().all(|&register| register == 0)
 }
 
 // The register that lies at an offset.
@@ -83,12 +57,5 @@ pub fn at(regs: &Regs, offset: u8) -> u8
     requires { offset ≤ 8 }
     ensures { result ≡ get_or regs.now offset 0 }
 {
-    let i = offset as usize;
-    regs[i]
-}
-
-pub fn wide(byte: u8) -> u32
-    ensures { result ≡ byte }
-{
-    byte as u32
+    regs[usize::from(offset)]
 }

@@ -7,7 +7,7 @@ ghost use Rattle.serial.specs.Calls.{event_bits, Reads};
 ghost use Rattle.serial.specs.Inside.{Received, WaitAfterRead};
 
 use crate::memory::{COUNT, IER, IIR, LSR, Pos, Regs, Ring};
-use crate::{iir, memory, waiting};
+use crate::{iir, waiting};
 use common::answer::{DATA_READ, DELIVERED, NONE_LEFT};
 
 // LSR once a byte has been read and `left` wait.
@@ -15,7 +15,6 @@ fn lsr_after_read(regs: &mut Regs, left: u32)
     ensures { WaitAfterRead regs.old left regs.new }
 {
     if left == 0 {
-        memory::regs_len(regs);
         regs[LSR] = line_status::after_read(regs[LSR], false);
     }
 }
@@ -25,9 +24,9 @@ fn delivered(byte: u8, waits: bool) -> u32
     ensures { result ≡ byte + event_bits (read_events true waits) }
 {
     if waits {
-        return memory::wide(byte) + (DATA_READ + DELIVERED);
+        return u32::from(byte) + (DATA_READ + DELIVERED);
     }
-    memory::wide(byte) + (DATA_READ + DELIVERED + NONE_LEFT)
+    u32::from(byte) + (DATA_READ + DELIVERED + NONE_LEFT)
 }
 
 // RBR: the first byte leaves. What is usual comes first, since a guest fetches its input byte by byte:
@@ -37,7 +36,6 @@ pub fn read_rbr(regs: &mut Regs, pos: &mut Pos, ring: &Ring) -> u32
         regs.new pos.new result }
 {
     let n = pos[COUNT];
-    memory::regs_len(regs);
     if n == 1 {
         regs[IIR] = interrupts::after_data_read(regs[IER], regs[IIR], false);
         lsr_after_read(regs, 0);
@@ -54,7 +52,6 @@ fn read_any_rbr(regs: &mut Regs, pos: &mut Pos, ring: &Ring) -> u32
     ensures { Reads read_rbr regs.old pos.old ring.now
         regs.new pos.new result }
 {
-    memory::regs_len(regs);
     let n = waiting::count(pos);
     regs[IIR] = interrupts::after_data_read(regs[IER], regs[IIR], 1 < n);
     if n == 0 {
@@ -70,13 +67,10 @@ fn read_any_rbr(regs: &mut Regs, pos: &mut Pos, ring: &Ring) -> u32
 pub fn receive(regs: &mut Regs, pos: &mut Pos, n: u32) -> u32
     ensures { Received regs.old pos.old n regs.new pos.new result }
 {
-    memory::regs_len(regs);
-    memory::pos_len(pos);
     let waits = pos[COUNT] != 0;
     pos[COUNT] = n;
-    let iir = regs[IIR];
-    let told = interrupts::data_came(regs[IER], iir, waits);
-    iir::store(regs, told.changes, told.iir);
+    let told = interrupts::data_came(regs[IER], regs[IIR], waits);
+    iir::store(regs, told.iir);
     regs[LSR] = line_status::ready(regs[LSR]);
     told.raises
 }
@@ -90,9 +84,7 @@ pub fn receive_quietly(regs: &mut Regs, pos: &mut Pos, waits: bool)
     ensures { Received regs.old pos.old (get_or pos.old 1 0 + 1)
         regs.new pos.new 0 }
 {
-    memory::regs_len(regs);
-    memory::pos_len(pos);
     iir::none_if_first(regs, waits);
-    pos[COUNT] = pos[COUNT] + 1;
+    pos[COUNT] += 1;
     regs[LSR] = line_status::ready(regs[LSR]);
 }

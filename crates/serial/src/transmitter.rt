@@ -6,7 +6,7 @@ ghost use Rattle.serial.specs.Calls.{Writes};
 ghost use Rattle.serial.specs.Inside.{Emptied};
 
 use crate::memory::{COUNT, IER, IIR, MCR, Pos, Regs, Ring, START};
-use crate::{iir, memory, receiver, waiting};
+use crate::{iir, receiver, waiting};
 use common::answer::{DROPPED, LOOPED, ONE_RAISE, SENT};
 
 // THR: in the loop the byte comes back, on the line it is sent.
@@ -17,9 +17,8 @@ pub fn write_thr(regs: &mut Regs, pos: &mut Pos, ring: &mut Ring, value: u8) -> 
     if modem::is_loop(regs[MCR]) {
         return write_loop(regs, pos, ring, value);
     }
-    memory::regs_len(regs);
     let raises = emptied(regs, pos[COUNT] != 0);
-    memory::wide(value) + SENT + ONE_RAISE * raises
+    u32::from(value) + SENT + ONE_RAISE * raises
 }
 
 // THR in the loop: the byte comes to the receiver, or is dropped where that is full.
@@ -30,8 +29,6 @@ fn write_loop(regs: &mut Regs, pos: &mut Pos, ring: &mut Ring, value: u8) -> u32
     if interrupts::is_quiet(regs[IER]) {
         return loop_quietly(regs, pos, ring, value);
     }
-    memory::regs_len(regs);
-    memory::pos_len(pos);
     let n = pos[COUNT];
     let size = waiting::size(regs);
     let raises = emptied(regs, n != 0);
@@ -48,8 +45,6 @@ fn loop_quietly(regs: &mut Regs, pos: &mut Pos, ring: &mut Ring, value: u8) -> u
     ensures { Writes (λ p. write_loop p value) regs.old pos.old ring.old
         regs.new pos.new ring.new result }
 {
-    memory::regs_len(regs);
-    memory::pos_len(pos);
     let n = pos[COUNT];
     if waiting::size(regs) <= n {
         return DROPPED;
@@ -64,9 +59,7 @@ fn loop_quietly(regs: &mut Regs, pos: &mut Pos, ring: &mut Ring, value: u8) -> u
 fn emptied(regs: &mut Regs, waits: bool) -> u32
     ensures { Emptied regs.old waits regs.new result }
 {
-    memory::regs_len(regs);
-    let iir = regs[IIR];
-    let told = interrupts::byte_sent(regs[IER], iir, waits);
-    iir::store(regs, told.changes, told.iir);
+    let told = interrupts::byte_sent(regs[IER], regs[IIR], waits);
+    iir::store(regs, told.iir);
     told.raises
 }

@@ -1,17 +1,16 @@
 // How many bytes wait, where the first lies, and how many may wait.
-ghost use Rattle.std.specs.Prelude.{◌≡◌, true, ◌≤◌, min};
+ghost use Rattle.std.specs.Prelude.{◌≡◌, true, ◌≤◌};
 ghost use Rattle.serial.specs.Inside.{Taken};
 ghost use Rattle.serial.specs.Port.{is_size};
 ghost use Rattle.serial.specs.Layout.{places, size_by, size_of, count_of};
 
-use crate::memory;
 use crate::memory::{COUNT, PLACES, Pos, Regs, Ring, SIZE, START};
 
 // The size that the register tells.
 fn size_by(register: u8) -> u32
     ensures { result ≡ size_by register }
 {
-    (63 + 4 * memory::wide(register)) % PLACES + 1
+    (63 + 4 * u32::from(register)) % PLACES + 1
 }
 
 // How many bytes may wait.
@@ -25,14 +24,7 @@ pub fn size(regs: &Regs) -> u32
 pub fn is_size(size: u32) -> bool
     ensures { result ≡ is_size size }
 {
-    match size {
-        16 | 32 | 64 | 128 | 256 | 512 | 1024 => {
-            return true;
-        }
-        _ => {
-            return false;
-        }
-    }
+    matches!(size, 16 | 32 | 64 | 128 | 256 | 512 | 1024)
 }
 
 // The register that tells a size with which a port is made.
@@ -47,32 +39,14 @@ pub fn register_for(size: u32) -> u8
 pub fn count(pos: &Pos) -> u32
     ensures { result ≡ count_of pos.now }
 {
-    let n = pos[COUNT];
-    if n < PLACES {
-        return n;
-    }
-    PLACES
-}
-
-// How many of `len` bytes there is room for.
-pub fn fitting(room: u32, len: usize) -> usize
-    ensures { result ≡ min room len }
-{
-    let most = room as usize;
-    if len < most {
-        return len;
-    }
-    most
+    pos[COUNT].min(PLACES)
 }
 
 // Whether n stands for itself and more than one byte waits.
 pub fn several(n: u32) -> bool
     ensures { result ≡ true → (2 ≤ n) × (n ≤ places) }
 {
-    if n < 2 {
-        return false;
-    }
-    n <= PLACES
+    2 <= n && n <= PLACES
 }
 
 // Of n bytes that wait the first leaves.
@@ -80,7 +54,6 @@ pub fn take(pos: &mut Pos, ring: &Ring, n: u32) -> u8
     requires { 1 ≤ n }
     ensures { Taken pos.old ring.now n pos.new result }
 {
-    memory::pos_len(pos);
     let start = pos[START];
     pos[START] = ring::next(start);
     pos[COUNT] = n - 1;

@@ -8,22 +8,20 @@ use native.Mathlib.Omega.{arith}
 use borrow.Author.Tests.{lt-ltb, le-ltb, eq-eqb, ne_eqb}
 use lib.Dec.{eqb}
 use lib.ListN.{length, get_or}
-use Rattle.serial.specs.Port.{Port, Out, Input, read_of, write_of, input_of, is_open, in_loop, has_room, takes_none, takes_some}
+use Rattle.serial.specs.Port.{Port, Out, Input, write_of, input_of, is_open, in_loop, has_room, takes_none, takes_some}
 use Rattle.serial.specs.Port.{Register, RBR_THR, IER, IIR_FCR, LCR, MCR, LSR, MSR, SCR, DLL, DLM, reserved, addressed, write_register}
 use Rattle.serial.specs.Port.{write_line, write_loop, write_ier, write_fcr, with_settings, becomes, put_fcr, fcr_stored, flushes}
 use Rattle.serial.specs.Layout.{places, port_of}
 use Rattle.common.specs.Answer.{sent_bit, flushed_bit, one_raise}
 use Rattle.common.specs.Bits.{on}
 use Rattle.common.proofs.Words.{one}
-use Rattle.serial.specs.Calls.{Reads, Writes, TakesInput, write_word, input_word}
-use Rattle.words.specs.Hex.{digits_of}
-use Rattle.words.specs.Put.{Puts}
+use Rattle.serial.specs.Calls.{Writes, TakesInput, write_word, input_word}
 use Rattle.words.specs.Text.{text}
 use Rattle.serial.proofs.Bounds.{sent_value, silent_word, sent_word, memory_fits, size_fits}
-use Rattle.words.proofs.Putting.{both, instead}
+use Rattle.words.proofs.Saying.{both, instead}
 use Rattle.serial_words.specs.Inside.{sent_part, taken_part}
 use Rattle.serial_words.specs.Said.{raises_say, sent_says, taken_says, port_says}
-use Rattle.serial_access.specs.Accesses.{DidRead, DidWrite, DidInput, line_says}
+use Rattle.serial_access.specs.Accesses.{DidWrite, DidInput}
 
 -- A write throws every waiting byte away and sends none, or it throws none away.
 abbrev Throws : Port → Out → Type 0
@@ -104,15 +102,10 @@ input_parts i h = go i.full
 
 -- ---- One access
 
-module _ {out o₁ o₂ out' : List ℕ} {at a b r : ℕ} {regs pos ring regs' pos' : List ℕ} {word : ℕ} where
-  pub reads : (offset : ℕ) → Reads (λ p. read_of p offset) regs pos ring regs' pos' word → Puts out at (text "r ") o₁ a
-      → Puts o₁ a (digits_of (word % 256)) o₂ b
-      → Puts o₂ b (raises_say (word / one_raise)) out' r → DidRead offset regs pos ring regs' pos' ring out at out' r
-  reads offset c p q s = record { says = rw (← c.answer) (both (both p q) s); holds = c.holds; spare = c.spares_kept.0 }
-
+module _ (out : List ℕ) {o₁ o₂ out' : List ℕ} {regs pos ring regs' pos' : List ℕ} {word : ℕ} where
   pub writes : (offset value : ℕ) {ring' : List ℕ} → value < 256 → Writes (λ p. write_of p offset value) regs pos ring regs' pos' ring' word
-      → Puts out at (text "w ") o₁ a → Puts o₁ a (sent_part word) o₂ b → Puts o₂ b (raises_say (word / one_raise)) out' r
-      → DidWrite offset value regs pos ring regs' pos' ring' out at out' r
+      → o₁ ≡ out ++ text "w " → o₂ ≡ o₁ ++ sent_part word → out' ≡ o₂ ++ raises_say (word / one_raise)
+      → DidWrite offset value regs pos ring regs' pos' ring' out out'
   writes offset value h c p q s =
       let before = port_of regs pos ring in
       let register = addressed (is_open before) offset in
@@ -120,34 +113,28 @@ module _ {out o₁ o₂ out' : List ℕ} {at a b r : ℕ} {regs pos ring regs' p
       (thrown before register value) in
       record {
         says =
-            both (both p (instead (ap sent_part c.answer ∙ parts.0) q))
-            (instead (ap (λ (w : ℕ). raises_say (w / one_raise)) c.answer ∙ ap raises_say parts.1) s);
+            both out _ _ (both out _ _ p (instead o₁ (ap sent_part c.answer ∙ parts.0) q))
+            (instead o₂ (ap (λ (w : ℕ). raises_say (w / one_raise)) c.answer ∙ ap raises_say parts.1) s);
         holds = c.holds;
         spare = c.spares_kept.0;
       }
 
   pub takes : (bytes : List ℕ) {ring' : List ℕ} → TakesInput (λ p. input_of p bytes) regs pos ring regs' pos' ring' word
-      → Puts out at (text "b ") o₁ a
-      → Puts o₁ a (taken_part (word % one_raise)) o₂ b → Puts o₂ b (raises_say (word / one_raise)) out' r
-      → DidInput bytes regs pos ring regs' pos' ring' out at out' r
+      → o₁ ≡ out ++ text "b " → o₂ ≡ o₁ ++ taken_part (word % one_raise) → out' ≡ o₂ ++ raises_say (word / one_raise)
+      → DidInput bytes regs pos ring regs' pos' ring' out out'
   takes bytes c p q s =
       let parts = input_parts (input_of (port_of regs pos ring) bytes) (few_taken (port_of regs pos ring) bytes (size_fits regs pos ring)) in
       record {
         says =
-            both (both p (instead (ap (λ (w : ℕ). taken_part (w % one_raise)) c.answer ∙ parts.0) q))
-            (instead (ap (λ (w : ℕ). raises_say (w / one_raise)) c.answer ∙ ap raises_say parts.1) s);
+            both out _ _ (both out _ _ p (instead o₁ (ap (λ (w : ℕ). taken_part (w % one_raise)) c.answer ∙ parts.0) q))
+            (instead o₂ (ap (λ (w : ℕ). raises_say (w / one_raise)) c.answer ∙ ap raises_say parts.1) s);
         holds = c.holds;
         spare = c.spares_kept.0;
       }
 
 -- the port as it lies, by its two positions
-pub state_of : (regs pos ring : List ℕ) {name out o₁ out' : List ℕ} {at a r : ℕ} → Puts out at name o₁ a
-    → Puts o₁ a (port_says (port_of regs (get_or pos 0 0 ∷ get_or pos 1 0 ∷ []) ring)) out' r
-    → Puts out at (name ++ port_says (port_of regs pos ring)) out' r
+pub state_of : (regs pos ring out name : List ℕ) {o₁ out' : List ℕ} → o₁ ≡ out ++ name
+    → out' ≡ o₁ ++ port_says (port_of regs (get_or pos 0 0 ∷ get_or pos 1 0 ∷ []) ring)
+    → out' ≡ out ++ (name ++ port_says (port_of regs pos ring))
 unfolding port_of
-state_of regs pos ring p q = both p q
-
--- The line is high, or low.
-pub line_said : {high t : Bool} {out out' : List ℕ} {at r : ℕ} → high ≡ t → {level : Bool} → high ≡ level → Puts out at (line_says t) out' r
-    → Puts out at (line_says level) out' r
-line_said e f p = rw (← f, e) p
+state_of regs pos ring out name p q = both out name _ p q

@@ -6,7 +6,6 @@ use Rattle.common.specs.Answer.{one_raise}
 use Rattle.serial.specs.Calls.{read_word}
 use Rattle.words.specs.Decimal.{decimal_of}
 use Rattle.words.specs.Hex.{digits_of}
-use Rattle.words.specs.Put.{Puts}
 use Rattle.words.specs.Text.{text}
 use Rattle.serial_words.specs.Said.{raises_say, sent_says, taken_says}
 
@@ -26,20 +25,20 @@ room_says room = text "room " ++ decimal_of room ++ text "\n"
 abbrev pub line_says : Bool → List ℕ
 line_says high = cond high (text "line 1\n") (text "line 0\n")
 
--- A call was answered: what was said, and the port that the memory holds, with these spare registers.
-pub record Did (said : List ℕ) (port : Port) (spares regs' pos' ring' out : List ℕ) (at : ℕ) (out' : List ℕ) (r : ℕ) : Type 0 where
-  pub says : Puts out at said out' r
+-- A call was answered: what was said behind what waited, and the port that the memory holds, with these spare registers.
+pub record Did (said : List ℕ) (port : Port) (spares regs' pos' ring' out out' : List ℕ) : Type 0 where
+  pub says : out' ≡ out ++ said
   pub holds : port_of regs' pos' ring' ≡ port
   pub spare : spare_registers regs' ≡ spares
 
-abbrev pub DidRead : ℕ → List ℕ → List ℕ → List ℕ → List ℕ → List ℕ → List ℕ → List ℕ → ℕ → List ℕ → ℕ → Type 0
-DidRead offset regs pos ring regs' pos' ring' out at out' r =
-    let o = read_of (port_of regs pos ring) offset in Did (read_says o) o.port (spare_registers regs) regs' pos' ring' out at out' r
+abbrev pub DidRead : ℕ → List ℕ → List ℕ → List ℕ → List ℕ → List ℕ → List ℕ → List ℕ → List ℕ → Type 0
+DidRead offset regs pos ring regs' pos' ring' out out' =
+    let o = read_of (port_of regs pos ring) offset in Did (read_says o) o.port (spare_registers regs) regs' pos' ring' out out'
 
-abbrev pub DidWrite : ℕ → ℕ → List ℕ → List ℕ → List ℕ → List ℕ → List ℕ → List ℕ → List ℕ → ℕ → List ℕ → ℕ → Type 0
-DidWrite offset value regs pos ring regs' pos' ring' out at out' r =
-    let o = write_of (port_of regs pos ring) offset value in Did (write_says o) o.port (spare_registers regs) regs' pos' ring' out at out' r
+abbrev pub DidWrite : ℕ → ℕ → List ℕ → List ℕ → List ℕ → List ℕ → List ℕ → List ℕ → List ℕ → List ℕ → Type 0
+DidWrite offset value regs pos ring regs' pos' ring' out out' =
+    let o = write_of (port_of regs pos ring) offset value in Did (write_says o) o.port (spare_registers regs) regs' pos' ring' out out'
 
-abbrev pub DidInput : List ℕ → List ℕ → List ℕ → List ℕ → List ℕ → List ℕ → List ℕ → List ℕ → ℕ → List ℕ → ℕ → Type 0
-DidInput bytes regs pos ring regs' pos' ring' out at out' r =
-    let i = input_of (port_of regs pos ring) bytes in Did (input_says i) i.port (spare_registers regs) regs' pos' ring' out at out' r
+abbrev pub DidInput : List ℕ → List ℕ → List ℕ → List ℕ → List ℕ → List ℕ → List ℕ → List ℕ → List ℕ → Type 0
+DidInput bytes regs pos ring regs' pos' ring' out out' =
+    let i = input_of (port_of regs pos ring) bytes in Did (input_says i) i.port (spare_registers regs) regs' pos' ring' out out'

@@ -1,34 +1,30 @@
 -- What each return of the code is in the definition.
 use mathlib.Core.Path.{◌≡◌, refl, sym, ap, ◌∙◌}
-use mathlib.Core.List.{List, [], ◌∷◌, ◌++◌, append-nil}
+use mathlib.Core.List.{List, [], ◌∷◌, ◌++◌}
 use Prim.Native.Nat.{ℕ, zero, suc, ◌+◌, ◌-◌, ◌≤◌, ◌<◌}
 use native.Mathlib.Nat.{add-zero, zero-add}
 use native.Mathlib.Omega.{arith}
-use lib.ListN.{replicate, length, get_or, set, take, drop, length-drop, length-take, drop_of_length-le}
-use mathlib.Core.Bool.{Bool, true, false, false≢true}
+use lib.ListN.{replicate, length, get_or, set, take, drop, length-drop, length-take}
+use mathlib.Core.Bool.{Bool, true, false, cond, false≢true}
 use mathlib.Core.Logic.{◌↔◌}
 use lib.Seq.{sets, sets-eq, take_all, drop-cons}
 use borrow.Author.Tests.{le-leb, lt-leb}
 use Rattle.common.specs.Bytes.{bytes_of, value_of}
-use Rattle.common.specs.Forms.{Reason, too_many, spare, refusal_word}
-use Rattle.serial_form.specs.Form.{version2, version3, number_of, form_by, form_of, Read, refused, saved_in, start, read_behind, read_version}
+use Rattle.std.specs.Prelude.{Result, Ok, Err, IsErrAnd}
+use Rattle.common.specs.Forms.{Reason, too_many, spare, refusal_word, word_of}
+use Rattle.serial_form.specs.Form.{Version, version2, version3, number_of, form_by, form_of, Read, refused, saved_in, start, read_behind, read_version}
 use Rattle.serial.specs.Layout.{places, size_of, spare_registers, fresh_spare_registers}
 use Rattle.serial.proofs.Sizes.{size_few}
-use Rattle.serial_form.specs.Calls.{written, are_zero, has_no_spare, Encodes, Decodes}
+use Rattle.serial_form.specs.Calls.{written, may_wait, are_zero, has_no_spare, Encodes}
+use Rattle.serial_form.specs.Inside.{Writes, Brings}
 use Rattle.serial_form.proofs.RoundTrip.{ten, eleven, form_length_lem, nine_there, ten_there}
-use Rattle.serial_form.proofs.Reading.{none_left, counted, count_found, count_found_2}
+use Rattle.serial_form.proofs.Reading.{none_left, counted, count_found}
 
 -- Stores from the first byte on.
 pub sets_first : (bytes memory : List ℕ) → length bytes ≤ length memory → sets memory 0 bytes ≡ written bytes memory
 sets_first bytes memory h =
     let room : 0 + length bytes ≤ length memory = omega arith in
     rw (sets-eq bytes memory 0 room, zero-add (length bytes))
-
-sets_all : (bytes memory : List ℕ) → length bytes ≡ length memory → sets memory 0 bytes ≡ bytes
-sets_all bytes memory e =
-    let room : length bytes ≤ length memory = omega arith in
-    let none : length memory ≤ length bytes = omega arith in
-    rw (sets_first bytes memory room, drop_of_length-le memory none) (append-nil bytes)
 
 -- All that lies from a place on, as a slice of the code.
 behind : (form : List ℕ) (at : ℕ) → take (length form - at) (drop at form) ≡ drop at form
@@ -70,7 +66,7 @@ as_found saved r long found = go r (has_no_spare saved) refl refl
 
 module _ (saved waiting form : List ℕ) (long : length saved ≡ 16) where
   pub writes : {form₁ form₂ form₃ form₄ form₅ : List ℕ} → form₁ ≡ sets form 0 (bytes_of 2 3) → form₂ ≡ sets form₁ 2 (take 10 saved)
-      → form₃ ≡ sets form₂ 12 (take (length saved - 15) (drop 15 saved)) → form₄ ≡ sets form₃ 13 (bytes_of 2 (length waiting))
+      → form₃ ≡ sets form₂ 12 (take 1 (drop 15 saved)) → form₄ ≡ sets form₃ 13 (bytes_of 2 (length waiting))
       → form₅ ≡ sets form₄ 15 waiting
       → form₅ ≡ sets form 0 (form_of saved waiting)
   unfolding form_by number_of bytes_of
@@ -79,51 +75,64 @@ module _ (saved waiting form : List ℕ) (long : length saved ≡ 16) where
       let registers = take 10 saved ++ drop 15 saved in
       let last : sets (sets start 2 (take 10 saved)) 12 (drop 15 saved) ≡ sets start 2 registers = rw (ten saved long) at
       (sets_behind start 2 (take 10 saved) (drop 15 saved)) in
-      rw (e₅, e₄, e₃, e₂, e₁, behind saved 15, last)
+      rw (e₅, e₄, e₃, e₂, e₁, take_all 1 (drop 15 saved) (omega (arith, length-drop 15 saved)), last)
       (rw (eleven saved long) at (sets_behind start 2 registers (bytes_of 2 (length waiting) ++ waiting)))
 
-  pub encode_refuses : size_of saved < length waiting → Encodes saved waiting form form (refusal_word too_many)
-  encode_refuses h = record { answer = rw (lt-leb _ _ h); memory = rw (lt-leb _ _ h) }
-
-  pub encode_refuses_spare : length waiting ≤ size_of saved → has_no_spare saved ≡ false → Encodes saved waiting form form (refusal_word spare)
-  encode_refuses_spare h z = record { answer = rw (le-leb _ _ h, z); memory = rw (le-leb _ _ h, z) }
-
   pub encode_tells : length waiting ≤ size_of saved → has_no_spare saved ≡ true → length form < 15 + length waiting
-      → Encodes saved waiting form form (15 + length waiting)
+      → Writes saved waiting form form (Ok (15 + length waiting))
   encode_tells h z l =
       let short : length form < length (form_of saved waiting) = omega (arith, form_length_lem saved waiting long) in
-      record { answer = rw (le-leb _ _ h, z) (sym (form_length_lem saved waiting long)); memory = rw (le-leb _ _ h, z, lt-leb _ _ short) }
+      record { answer = rw (le-leb _ _ h, z) (sym (ap Ok (form_length_lem saved waiting long))); memory = rw (le-leb _ _ h, z, lt-leb _ _ short) }
 
   pub encode_writes : {form' : List ℕ} → length waiting ≤ size_of saved → has_no_spare saved ≡ true → 15 + length waiting ≤ length form
       → form' ≡ sets form 0 (form_of saved waiting)
-      → Encodes saved waiting form form' (15 + length waiting)
+      → Writes saved waiting form form' (Ok (15 + length waiting))
   encode_writes h z l e =
       let room : length (form_of saved waiting) ≤ length form = omega (arith, form_length_lem saved waiting long) in
       record {
-        answer = rw (le-leb _ _ h, z) (sym (form_length_lem saved waiting long));
+        answer = rw (le-leb _ _ h, z) (sym (ap Ok (form_length_lem saved waiting long)));
         memory = rw (e, le-leb _ _ h, z, le-leb _ _ room) (sets_first (form_of saved waiting) form room);
       }
+
+-- The call tells it by a word.
+pub encodes : {saved waiting form form' : List ℕ} {r : Result ℕ Reason} {n : ℕ} → Writes saved waiting form form' r → n ≡ word_of r
+    → Encodes saved waiting form form' n
+encodes {saved} {waiting} w e = record {
+  answer = e ∙ ap word_of w.answer ∙ go (may_wait saved waiting) (has_no_spare saved) (length (form_of saved waiting));
+  memory = w.memory;
+}
+  where
+    go : (a b : Bool) (n : ℕ)
+        → word_of (cond a (cond b (Ok n) (Err spare)) (Err too_many)) ≡ cond a (cond b n (refusal_word spare)) (refusal_word too_many)
+    go true true n = refl
+    go true false n = refl
+    go false b n = refl
 
 -- ---- Reading
 
 pub refuses : {o : Read} (reason : Reason) (saved waiting : List ℕ) → o ≡ refused reason
-    → Decodes o saved waiting saved waiting (refusal_word reason)
+    → Brings o saved waiting saved waiting (Err reason)
 refuses reason saved waiting e = rw e (record { answer = refl; registers = refl; bytes = refl })
 
-pub goes_on : {o o' : Read} {saved waiting saved' waiting' : List ℕ} {r : ℕ} → o ≡ o' → Decodes o' saved waiting saved' waiting' r
-    → Decodes o saved waiting saved' waiting' r
+-- By `?` a reason goes on as it is.
+pub passes_on : {o : Read} {saved waiting : List ℕ} {reason found : Reason} {r : Result ℕ Reason} → o ≡ refused reason → found ≡ reason
+    → IsErrAnd r (λ e. e ≡ found) → Brings o saved waiting saved waiting r
+passes_on {r = Ok n} e f k = absurd k
+passes_on {r = Err there} e f k = rw (k ∙ f) (refuses _ _ _ e)
+
+pub goes_on : {o o' : Read} {saved waiting saved' waiting' : List ℕ} {r : Result ℕ Reason} → o ≡ o' → Brings o' saved waiting saved' waiting' r
+    → Brings o saved waiting saved' waiting' r
 goes_on e d = rw e d
 
 module _ (registers : List ℕ) (n : ℕ) (bytes saved waiting : List ℕ) {saved' waiting' : List ℕ} where
-  pub accepts : n ≤ size_of registers → length bytes ≡ n → length registers ≡ 16 → length saved ≡ 16 → length waiting ≡ places
-      → saved' ≡ sets saved 0 registers → waiting' ≡ sets waiting 0 bytes
-      → Decodes (read_behind registers n bytes) saved waiting saved' waiting' n
-  accepts h e r s w p q =
+  pub accepts : n ≤ size_of registers → length bytes ≡ n → length waiting ≡ places → saved' ≡ registers → waiting' ≡ sets waiting 0 bytes
+      → Brings (read_behind registers n bytes) saved waiting saved' waiting' (Ok n)
+  accepts h e w p q =
       let room : length bytes ≤ length waiting = omega (arith, size_few registers) in
       rw (none_left registers n bytes h e)
       (record {
-        answer = sym e;
-        registers = p ∙ sets_all registers saved (r ∙ sym s);
+        answer = ap Ok (sym e);
+        registers = p;
         bytes = q ∙ sets_first bytes waiting room;
       })
 
@@ -131,26 +140,29 @@ module _ (registers : List ℕ) (n : ℕ) (bytes saved waiting : List ℕ) {save
 abbrev sixteen : List ℕ
 sixteen = replicate 16 0
 
-module _ (form saved waiting : List ℕ) {registers saved' waiting' : List ℕ} {n r : ℕ} where
-  pub finds_2 : 13 ≤ length form → registers ≡ sets sixteen 0 (take 9 (drop 2 form)) → n ≡ value_of (get_or form 11 0 ∷ get_or form 12 0 ∷ [])
-      → Decodes (read_behind registers n (take (length form - 13) (drop 13 form))) saved waiting saved' waiting' r
-      → Decodes (read_version version2 form) saved waiting saved' waiting' r
+module _ (form : List ℕ) {registers : List ℕ} where
+  pub finds_2 : start version2 ≤ length form → registers ≡ sets sixteen 0 (take 9 (drop 2 form)) → registers ≡ saved_in version2 form
   unfolding saved_in start
-  finds_2 h e f d =
+  finds_2 h e =
       let nine : length (take 9 (drop 2 form)) ≡ 9 = nine_there form h in
       let room : length (take 9 (drop 2 form)) ≤ 16 = omega arith in
-      let front : registers ≡ saved_in version2 form = e ∙ sets_first (take 9 (drop 2 form)) sixteen room ∙ rw nine refl in
-      rw (counted form version2 h, ← front, ← count_found_2 form h f, ← behind form 13) d
+      e ∙ sets_first (take 9 (drop 2 form)) sixteen room ∙ rw nine refl
 
-  pub finds_3 : 15 ≤ length form → registers ≡ sets (set sixteen 15 (get_or form 12 0)) 0 (take 10 (drop 2 form))
-      → n ≡ value_of (get_or form 13 0 ∷ get_or form 14 0 ∷ [])
-      → Decodes (read_behind registers n (take (length form - 15) (drop 15 form))) saved waiting saved' waiting' r
-      → Decodes (read_version version3 form) saved waiting saved' waiting' r
+  pub finds_3 : start version3 ≤ length form → registers ≡ sets (set sixteen 15 (get_or form 12 0)) 0 (take 10 (drop 2 form))
+      → registers ≡ saved_in version3 form
   unfolding saved_in start
-  finds_3 h e f d =
+  finds_3 h e =
       let ten : length (take 10 (drop 2 form)) ≡ 10 = ten_there form h in
       let room : length (take 10 (drop 2 form)) ≤ 16 = omega arith in
       let last : take 1 (drop 12 form) ≡ get_or form 12 0 ∷ [] = ap (take 1) (drop-cons form 12 0 (omega arith)) in
-      let front : registers ≡ saved_in version3 form = e ∙ sets_first (take 10 (drop 2 form)) (set sixteen 15 (get_or form 12 0)) room
-      ∙ rw (ten, last) refl in
-      rw (counted form version3 h, ← front, ← count_found form h f, ← behind form 15) d
+      e ∙ sets_first (take 10 (drop 2 form)) (set sixteen 15 (get_or form 12 0)) room ∙ rw (ten, last) refl
+
+-- Behind its number a form of a version is read as the code does it.
+pub brings_version : (form saved waiting : List ℕ) {registers saved' waiting' : List ℕ} {n at : ℕ} {r : Result ℕ Reason} (v : Version)
+    → at ≡ start v → at ≤ length form → registers ≡ saved_in v form → n ≡ value_of (get_or form (at - 2) 0 ∷ get_or form (at - 1) 0 ∷ [])
+    → Brings (read_behind registers n (take (length form - at) (drop at form))) saved waiting saved' waiting' r
+    → Brings (read_version v form) saved waiting saved' waiting' r
+brings_version form saved waiting {at = at} v s h e f d =
+    let h' : start v ≤ length form = rw s at h in
+    let k = count_found form v s h' f in
+    rw (counted form v h', ← e, ← k, ← s, ← behind form at) d

@@ -1,7 +1,7 @@
 -- What reading a form comes to, by what is found in it.
 use mathlib.Core.Path.{◌≡◌, sym, ap, ◌∙◌}
 use mathlib.Core.List.{List, [], ◌∷◌}
-use Prim.Native.Nat.{ℕ, suc, ◌+◌, ◌≤◌, ◌<◌}
+use Prim.Native.Nat.{ℕ, suc, ◌+◌, ◌-◌, ◌≤◌, ◌<◌}
 use native.Mathlib.Numerals.{add-one}
 use native.Mathlib.Omega.{arith}
 use lib.ListN.{length, get_or, take, drop}
@@ -42,6 +42,17 @@ pub not_both : {n : ℕ} → n ≡ number_of version2 → n ≡ number_of versio
 unfolding number_of
 not_both e f = omega arith
 
+-- A number that is neither is no version's.
+pub of_none : {n : ℕ} → (n ≡ 3 → ⊥) → (n ≡ 2 → ⊥) → (v : Version) → n ≡ number_of v → ⊥
+unfolding number_of
+of_none d e version2 = e
+of_none d e version3 = d
+
+pub has_version : (v : Version) → 2 ≤ start v
+unfolding start
+has_version version2 = omega arith
+has_version version3 = omega arith
+
 module _ (form : List ℕ) where
   pub no_count : (v : Version) → length form < start v → read_version v form ≡ refused too_short
   unfolding read_version
@@ -77,10 +88,8 @@ module _ (form : List ℕ) {n : ℕ} where
   pub version_found : 2 ≤ length form → n ≡ value_of (get_or form 0 0 ∷ get_or form 1 0 ∷ []) → n ≡ version_in form
   version_found h e = e ∙ sym (ap value_of (two_there form 0 (omega arith)))
 
-  pub count_found_2 : 13 ≤ length form → n ≡ value_of (get_or form 11 0 ∷ get_or form 12 0 ∷ []) → n ≡ count_in version2 form
-  unfolding count_in
-  count_found_2 h e = e ∙ sym (ap value_of (two_there form 11 (omega arith)))
-
-  pub count_found : 15 ≤ length form → n ≡ value_of (get_or form 13 0 ∷ get_or form 14 0 ∷ []) → n ≡ count_in version3 form
-  unfolding count_in
-  count_found h e = e ∙ sym (ap value_of (two_there form 13 (omega arith)))
+  pub count_found : (v : Version) {at : ℕ} → at ≡ start v → start v ≤ length form
+      → n ≡ value_of (get_or form (at - 2) 0 ∷ get_or form (at - 1) 0 ∷ []) → n ≡ count_in v form
+  unfolding count_in start
+  count_found version2 s h e = rw s at e ∙ sym (ap value_of (two_there form 11 (omega arith)))
+  count_found version3 s h e = rw s at e ∙ sym (ap value_of (two_there form 13 (omega arith)))

@@ -18,14 +18,9 @@ use Rattle.serial_form.specs.Form.{version_in, no_others, saved_in, count_in, st
 use Rattle.serial_form.specs.Calls.{written, are_zero, has_no_spare, Encodes, Decodes}
 use Rattle.serial_form.specs.Outcomes.{Is, Comes, no_version, other_version, cut_off, too_many_wait, too_few, left_over, whole}
 use Rattle.serial_form.proofs.Reading.{too_many_lem, too_few_lem, left_over_lem, none_left, not_both, no_count, counted, no_version_lem}
-use Rattle.serial_form.proofs.Reading.{known_version, other_version_lem}
+use Rattle.serial_form.proofs.Reading.{has_version, known_version, other_version_lem}
 
 -- ---- What reading comes to, exactly
-
-has_version : (v : Version) → 2 ≤ start v
-unfolding start
-has_version version2 = omega arith
-has_version version3 = omega arith
 
 module _ (form : List ℕ) where
   counts : (v : Version) → start v ≤ length form → Is v form

@@ -1,4 +1,3 @@
 mod Saying
 mod Answering
-pub mod Counting
 pub mod Once

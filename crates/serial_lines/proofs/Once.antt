@@ -1,14 +1,14 @@
 -- One line has one answer: what the serial port says and what it comes to depends on the port, its spare registers, what is counted and what
 -- is kept, and on nothing else of the memory.
-use Prim.Native.Nat.{ℕ, ◌<◌}
+use Prim.Native.Nat.{ℕ}
 use mathlib.Core.Path.{◌≡◌, refl, sym, ap, ◌∙◌}
 use mathlib.Core.Bool.{Bool, true, false, cond}
 use mathlib.Core.List.{List}
-use borrow.Author.Tests.{le-leb, lt-leb}
+use Rattle.std.proofs.Common.{None}
 use Rattle.common.proofs.Booleans.{told_once}
 use Rattle.counters.specs.Counters.{Serial, fresh_serial, serial_after, answered}
 use Rattle.serial.specs.Calls.{MakesFresh}
-use Rattle.serial.specs.Layout.{places, spare_registers}
+use Rattle.serial.specs.Layout.{spare_registers}
 use Rattle.serial.specs.Port.{Port}
 use Rattle.serial_saved.specs.Saved.{restore_of}
 use Rattle.serial_words.specs.Lines.{line_of}
@@ -16,7 +16,7 @@ use Rattle.serial_words.specs.declared.line.Line.{Line}
 use Rattle.serial_words.specs.declared.line.Line.TheVariants.{Save, Kept, OfPort}
 use Rattle.words.specs.Pattern.{fits_of}
 use Rattle.words.specs.Text.{text}
-use Rattle.serial_lines.specs.Answers.{Asks, Tells, Keeps, asks, asks_by, asks_kept, says, port_in, port_then, spares_then, is_save, word_then, restore_says, read, write, input, show_room, show_state, show_line, save, restore, nothing}
+use Rattle.serial_lines.specs.Answers.{Asks, Tells, Keeps, asks, asks_by, asks_kept, asks_saved, says, port_in, port_then, spares_then, is_save, word_then, restore_says, read, write, input, show_room, show_state, show_line, save, restore, nothing}
 use Rattle.serial_lines.specs.Counted.{
   Asked,
   AnswersAsked,
@@ -37,7 +37,7 @@ use Rattle.serial_lines.specs.declared.Ports.{Ports}
 -- The same port, of two memories.
 pub record SamePort (ports ports' : Ports) : Type 0 where
   pub port : port_in ports.held ≡ port_in ports'.held
-  pub spare : spare_registers ports.held.regs ≡ spare_registers ports'.held.regs
+  pub spare : spare_registers ports.held.port.regs ≡ spare_registers ports'.held.port.regs
   pub counted : counters_in ports ≡ counters_in ports'
 
 -- The same is kept, or nothing is.
@@ -83,10 +83,10 @@ same_held : {held held' held₁ held₁' : Held} → held₁ ≡ held → held�
 same_held e f k = record { kept = ap (λ (h : Held). asks_kept h) e ∙ k.kept ∙ sym (ap (λ (h : Held). asks_kept h) f) }
 
 kept_stays : (held held₁ : Held) → Keeps false held held₁ → asks_kept held₁ ≡ asks_kept held
-kept_stays held held₁ k = rw (k.0, k.1, k.2) refl
+kept_stays held held₁ k = ap asks_saved k
 
-kept_now : (held held₁ : Held) → Keeps true held held₁ → asks_kept held₁ ≡ restore (port_in held) (spare_registers held.regs)
-kept_now held held₁ k = rw (le-leb held₁.count places k.0, k.1, k.2) refl
+kept_now : (held held₁ : Held) → Keeps true held held₁ → asks_kept held₁ ≡ restore (port_in held) (spare_registers held.port.regs)
+kept_now held held₁ k = ap asks_saved k.1 ∙ rw (k.2, k.3) refl
 
 -- A port that is named leaves what is kept.
 pub named_kept : {held held' : Held} (held₁ held₁' : Held) → SameKept held held' → Keeps false held held₁ → Keeps false held' held₁'
@@ -94,17 +94,14 @@ pub named_kept : {held held' : Held} (held₁ held₁' : Held) → SameKept held
 named_kept {held} {held'} held₁ held₁' s k l = record { kept = kept_stays held held₁ k ∙ s.kept ∙ sym (kept_stays held' held₁' l) }
 
 -- Nothing is kept.
-none : (held : Held) → places < held.count → asks_kept held ≡ nothing
-none held l = rw (lt-leb held.count places l) refl
+pub none_kept : {held held' : Held} → held.kept ≡ None → held'.kept ≡ None → SameKept held held'
+none_kept l m = record { kept = ap asks_saved l ∙ sym (ap asks_saved m) }
 
-pub none_kept : {held held' : Held} → places < held.count → places < held'.count → SameKept held held'
-none_kept {held} {held'} l m = record { kept = none held l ∙ sym (none held' m) }
-
-pub fresh_once : {size : ℕ} {ports ports' : Ports} → MakesFresh size ports.held.regs ports.held.pos
-    → MakesFresh size ports'.held.regs ports'.held.pos → counters_in ports ≡ fresh_serial → counters_in ports' ≡ fresh_serial
+pub fresh_once : {size : ℕ} {ports ports' : Ports} → MakesFresh size ports.held.port.regs ports.held.port.pos
+    → MakesFresh size ports'.held.port.regs ports'.held.port.pos → counters_in ports ≡ fresh_serial → counters_in ports' ≡ fresh_serial
     → SamePort ports ports'
 fresh_once {ports = ports} {ports' = ports'} f g c d = record {
-  port = f.holds ports.held.ring ∙ sym (g.holds ports'.held.ring);
+  port = f.holds ports.held.port.ring ∙ sym (g.holds ports'.held.port.ring);
   spare = f.spares_zero ∙ sym g.spares_zero;
   counted = c ∙ sym d;
 }
@@ -122,12 +119,12 @@ module _ {ports ports' : Ports} (s : SamePort ports ports') (k : SameKept ports.
   kept_then (of_ports asked) held₁ held₁' h l = kept_by (is_save asked) held₁ held₁' h.2 l.2
 
   port_then_lem : (asked : Asked) (held₁ held₁' : Held) → HeldThen asked ports.held held₁ → HeldThen asked ports'.held held₁'
-      → (port_in held₁ ≡ port_in held₁') × (spare_registers held₁.regs ≡ spare_registers held₁'.regs)
+      → (port_in held₁ ≡ port_in held₁') × (spare_registers held₁.port.regs ≡ spare_registers held₁'.port.regs)
   port_then_lem show_counters held₁ held₁' e f = (rw (e, f) s.port, rw (e, f) s.spare)
   port_then_lem lost held₁ held₁' e f = (rw (e, f) s.port, rw (e, f) s.spare)
   port_then_lem (of_ports asked) held₁ held₁' h l = (
     h.0 ∙ ap (λ (p : Port). port_then asked p) s.port ∙ sym l.0,
-    h.1 ∙ ap (λ (p : Port). spares_then asked p (spare_registers ports.held.regs)) s.port ∙
+    h.1 ∙ ap (λ (p : Port). spares_then asked p (spare_registers ports.held.port.regs)) s.port ∙
         ap (λ (r : List ℕ). spares_then asked (port_in ports'.held) r) s.spare ∙ sym l.1,
   )
 
@@ -138,8 +135,8 @@ module _ {ports ports' : Ports} (s : SamePort ports ports') (k : SameKept ports.
       ap (λ (c : Serial). serial_after c (answered (word_then asked (port_in ports.held)))) s.counted ∙
       ap (λ (p : Port). serial_after (counters_in ports') (answered (word_then asked p))) s.port
 
-  module _ {asked : Asked} {ports₁ ports₁' : Ports} {out out₁ out' out₁' : List ℕ} {at r at' r' : ℕ}
-      (a : AnswersAsked asked ports out at ports₁ out₁ r) (b : AnswersAsked asked ports' out' at' ports₁' out₁' r') where
+  module _ {asked : Asked} {ports₁ ports₁' : Ports} {out out₁ out' out₁' : List ℕ}
+      (a : AnswersAsked asked ports out ports₁ out₁) (b : AnswersAsked asked ports' out' ports₁' out₁') where
     pub answers_said : says_asked asked ports a.reached ≡ says_asked asked ports' b.reached
     answers_said = said_once asked a.reached b.reached s a.tells b.tells
 

@@ -1,15 +1,15 @@
 -- The serial port's lines that speak of ports, and their answers.
-use Rattle.std.specs.Prelude.{ℕ, ◌+◌, ◌≤◌, ◌≡◌, Bool, true, false, cond, List, [], ◌++◌, ◌↔◌, leb, take, drop}
+use Rattle.std.specs.Prelude.{ℕ, ◌+◌, ◌≤◌, ◌≡◌, Bool, true, false, cond, List, [], ◌++◌, ◌↔◌, Option, Some, None, length, take, drop}
 use Rattle.serial.specs.Port.{Port, is_size, read_of, write_of, input_of, room_of, line}
-use Rattle.serial.specs.Layout.{places, port_of, spare_registers, fresh_spare_registers}
+use Rattle.serial.specs.Layout.{port_of, spare_registers, fresh_spare_registers}
 use Rattle.serial.specs.Calls.{read_word, write_word}
 use Rattle.runs.specs.Reachable.{Reachable}
 use Rattle.serial_saved.specs.Saved.{Restore, saved_of, restore_of}
 use Rattle.words.specs.Decimal.{decimal_of}
 use Rattle.words.specs.Hex.{byte_at, bytes_of, are_bytes}
-use Rattle.words.specs.Put.{Puts}
 use Rattle.words.specs.Text.{text}
 use Rattle.serial_access.specs.Accesses.{Did, read_says, write_says, input_says, room_says, line_says}
+use Rattle.serial_access.specs.declared.Port as memory
 use Rattle.serial_words.specs.Lines.{line_of}
 use Rattle.serial_words.specs.Said.{port_says}
 use Rattle.serial_words.specs.declared.line.Line.{Line}
@@ -18,16 +18,16 @@ use Rattle.serial_words.specs.declared.line.Access.{Access}
 use Rattle.serial_words.specs.declared.line.Access.TheVariants.{Write, Read, InputNone, InputBytes, Room, State, Level, RestoreNone}
 use Rattle.serial_words.specs.declared.line.Access.TheVariants.{RestoreBytes, Unknown}
 use Rattle.serial_lines.specs.declared.Held.{Held}
+use Rattle.serial_lines.specs.declared.kept.Saved.{Saved}
 
-abbrev pub held_of : List ℕ → List ℕ → List ℕ → List ℕ → List ℕ → ℕ → Held
-held_of regs pos ring saved waiting count = record { regs = regs; pos = pos; ring = ring; saved = saved; waiting = waiting; count = count }
+abbrev pub held_of : memory.Port → Option Saved → Held
+held_of port kept = record { port = port; kept = kept }
 
 abbrev pub port_in : Held → Port
-port_in held = port_of held.regs held.pos held.ring
+port_in held = port_of held.port.regs held.port.pos held.port.ring
 
--- A number above the places of the ring says that none was saved.
-abbrev pub kept_in : Held → Port
-kept_in held = saved_of held.saved (take held.count held.waiting)
+abbrev pub kept_in : Saved → Port
+kept_in saved = saved_of saved.regs (take saved.count saved.waiting)
 
 -- ---- What a line asks for. A port to restore has its spare registers beside it.
 
@@ -63,9 +63,13 @@ given_in line bytes = record {
   size = 64;
 }
 
--- `restore` alone asks for the port that was saved last.
+-- `restore` alone asks for the port that was saved last, if one was.
+abbrev pub asks_saved : Option Saved → Asks
+asks_saved None = nothing
+asks_saved (Some saved) = restore (kept_in saved) (spare_registers saved.regs)
+
 abbrev pub asks_kept : Held → Asks
-asks_kept held = cond (leb held.count places) (restore (kept_in held) (spare_registers held.saved)) nothing
+asks_kept held = asks_saved held.kept
 
 abbrev pub asks_port : Access → List ℕ → Asks
 asks_port (Write offset value) line = write offset value
@@ -159,35 +163,34 @@ is_save nothing = false
 -- After `save` the port is kept with its spare registers, and after every other line what was kept before.
 abbrev pub Keeps : Bool → Held → Held → Type 0
 Keeps true held held' =
-    (held'.count ≤ places) × (kept_in held' ≡ port_in held) × (spare_registers held'.saved ≡ spare_registers held.regs)
-Keeps false held held' = (held'.saved ≡ held.saved) × (held'.waiting ≡ held.waiting) × (held'.count ≡ held.count)
+    (saved : Saved) × (held'.kept ≡ Some saved) × (kept_in saved ≡ port_in held) ×
+    (spare_registers saved.regs ≡ spare_registers held.port.regs)
+Keeps false held held' = held'.kept ≡ held.kept
 
 -- A port was restored.
-pub record Brought (saved : Port) (spares regs pos ring regs' pos' ring' out : List ℕ) (at : ℕ) (out' : List ℕ) (r : ℕ) : Type 0 where
+pub record Brought (saved : Port) (spares : List ℕ) (port port' : memory.Port) (out out' : List ℕ) : Type 0 where
   pub reached : Bool
   pub tells : (reached ≡ true) ↔ Reached saved spares
   pub did :
-      let o = restore_of (port_of regs pos ring) saved in
-      Did (restore_says o reached) o.port (cond o.refused (spare_registers regs) spares) regs' pos' ring' out at out' r
+      let o = restore_of (port_of port.regs port.pos port.ring) saved in
+      Did (restore_says o reached) o.port (cond o.refused (spare_registers port.regs) spares) port'.regs port'.pos port'.ring out out'
 
 -- What a line asks for was answered.
-pub record Answers (asked : Asks) (held : Held) (out : List ℕ) (at : ℕ) (held' : Held) (out' : List ℕ) (r : ℕ) : Type 0 where
+pub record Answers (asked : Asks) (held : Held) (out : List ℕ) (held' : Held) (out' : List ℕ) : Type 0 where
   pub reached : Bool
   pub tells : Tells asked reached
-  pub said : Puts out at (says asked (port_in held) reached) out' r
+  pub said : out' ≡ out ++ says asked (port_in held) reached
   pub port : port_in held' ≡ port_then asked (port_in held)
-  pub spare : spare_registers held'.regs ≡ spares_then asked (port_in held) (spare_registers held.regs)
+  pub spare : spare_registers held'.port.regs ≡ spares_then asked (port_in held) (spare_registers held.port.regs)
   pub kept : Keeps (is_save asked) held held'
-  pub short : r ≤ at + 4096
+  pub short : length out' ≤ length out + 4096
 
 -- What a line asks of the port alone was answered, whatever was saved.
-abbrev pub AnswersPort : Asks → List ℕ → List ℕ → List ℕ → List ℕ → List ℕ → List ℕ → List ℕ → ℕ → List ℕ → ℕ → Type 0
-AnswersPort asked regs pos ring regs' pos' ring' out at out' r =
-    (saved waiting : List ℕ) (count : ℕ)
-    → Answers asked (held_of regs pos ring saved waiting count) out at (held_of regs' pos' ring' saved waiting count) out' r
+abbrev pub AnswersPort : Asks → memory.Port → memory.Port → List ℕ → List ℕ → Type 0
+AnswersPort asked port port' out out' = (kept : Option Saved) → Answers asked (held_of port kept) out (held_of port' kept) out'
 
-abbrev pub AnswersHeld : List ℕ → Held → List ℕ → ℕ → Held → List ℕ → ℕ → Type 0
-AnswersHeld line held out at held' out' r = Answers (asks held line) held out at held' out' r
+abbrev pub AnswersHeld : List ℕ → Held → List ℕ → Held → List ℕ → Type 0
+AnswersHeld line held out held' out' = Answers (asks held line) held out held' out'
 
 -- The word that is counted: a read's or a write's. Every other line has 0, which tells of nothing; so do the words of an input and of a
 -- restore.

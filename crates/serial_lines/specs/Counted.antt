@@ -1,11 +1,10 @@
 -- The serial port's lines, with what is counted since it was named.
-use Rattle.std.specs.Prelude.{ℕ, ◌+◌, ◌≤◌, ◌≡◌, Bool, cond, List, ◌++◌}
+use Rattle.std.specs.Prelude.{ℕ, ◌+◌, ◌≤◌, ◌≡◌, Bool, cond, List, ◌++◌, length}
 use Rattle.counters.specs.Counters.{Serial, serial_of, serial_after, answered}
 use Rattle.counters.specs.Counters as counters
 use Rattle.serial.specs.Layout.{spare_registers}
 use Rattle.words.specs.Decimal.{next_decimal}
 use Rattle.words.specs.Pattern.{fits_of}
-use Rattle.words.specs.Put.{Puts}
 use Rattle.words.specs.Text.{text}
 use Rattle.serial_lines.specs.Answers.{Asks, asks, says, Tells, port_in, port_then, spares_then, is_save, Keeps, word_then}
 use Rattle.serial_lines.specs.declared.Held.{Held}
@@ -46,7 +45,7 @@ HeldThen show_counters held held' = held' ≡ held
 HeldThen lost held held' = held' ≡ held
 HeldThen (of_ports asked) held held' =
     (port_in held' ≡ port_then asked (port_in held)) ×
-    (spare_registers held'.regs ≡ spares_then asked (port_in held) (spare_registers held.regs)) × Keeps (is_save asked) held held'
+    (spare_registers held'.port.regs ≡ spares_then asked (port_in held) (spare_registers held.port.regs)) × Keeps (is_save asked) held held'
 
 abbrev pub counted_then : Asked → Ports → Serial
 counted_then show_counters ports = counters_in ports
@@ -54,13 +53,13 @@ counted_then lost ports = serial_after (counters_in ports) counters.lost
 counted_then (of_ports asked) ports = serial_after (counters_in ports) (answered (word_then asked (port_in ports.held)))
 
 -- What a line asks for was answered.
-pub record AnswersAsked (asked : Asked) (ports : Ports) (out : List ℕ) (at : ℕ) (ports' : Ports) (out' : List ℕ) (r : ℕ) : Type 0 where
+pub record AnswersAsked (asked : Asked) (ports : Ports) (out : List ℕ) (ports' : Ports) (out' : List ℕ) : Type 0 where
   pub reached : Bool
   pub tells : TellsAsked asked reached
-  pub said : Puts out at (says_asked asked ports reached) out' r
+  pub said : out' ≡ out ++ says_asked asked ports reached
   pub held : HeldThen asked ports.held ports'.held
   pub counted : counters_in ports' ≡ counted_then asked ports
-  pub short : r ≤ at + 4096
+  pub short : length out' ≤ length out + 4096
 
-abbrev pub AnswersPorts : List ℕ → Ports → List ℕ → ℕ → Ports → List ℕ → ℕ → Type 0
-AnswersPorts line ports out at ports' out' r = AnswersAsked (asked_of ports.held line) ports out at ports' out' r
+abbrev pub AnswersPorts : List ℕ → Ports → List ℕ → Ports → List ℕ → Type 0
+AnswersPorts line ports out ports' out' = AnswersAsked (asked_of ports.held line) ports out ports' out'

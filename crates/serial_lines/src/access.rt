@@ -1,88 +1,43 @@
 // The lines that speak of the port alone.
-ghost use Rattle.std.specs.Prelude.{◌+◌, ◌≤◌, ◌≡◌, drop};
+ghost use Rattle.std.specs.Prelude.{◌+◌, ◌≤◌, ◌≡◌, length, drop};
 ghost use Rattle.serial.specs.Layout.{port_of};
 ghost use Rattle.serial_lines.specs.Answers.{AnswersPort, asks_port, asks_with, word_then, input};
 
 use crate::saved::{regs_in, restore, restore_given};
-use serial::memory::{Pos, Regs, Ring};
-use serial_access::{Done, input, read, room, state, write};
+use serial_access::Port;
 use serial_words::line::Access;
-use words::Block;
-use words::hex::{Bytes, bytes_from};
-use words::put::unknown;
+use words::hex::bytes_from;
+use words::out::Out;
 
-// What is answered, and the word of an access, or 0.
-pub fn answer(
-    access: Access,
-    line: &[u8],
-    regs: &mut Regs,
-    pos: &mut Pos,
-    ring: &mut Ring,
-    out: &mut Block,
-    at: usize,
-) -> Done
-    requires { at + 4096 ≤ 65536 }
-    ensures answers_port { AnswersPort (asks_port access line.now) regs.old pos.old ring.old
-        regs.new pos.new ring.new out.old at out.new result.put }
-    ensures word_value { result.word ≡ word_then (asks_port access line.now) (port_of regs.old pos.old ring.old) }
+// The answer: the word of an access, or 0, which tells the counters of nothing.
+pub fn answer(access: Access, line: &[u8], port: &mut Port, out: &mut Out) -> u32
+    requires { length out.old + 4096 ≤ 65536 }
+    ensures answers_port { AnswersPort (asks_port access line.now) port.old port.new out.old out.new }
+    ensures word_value { result ≡ word_then (asks_port access line.now) (port_of port.old.regs port.old.pos port.old.ring) }
 {
     match access {
-        Access::Write(offset, value) => write(regs, pos, ring, offset, value, out, at),
-        Access::Read(offset) => read(regs, pos, ring, offset, out, at),
-        Access::InputNone => Done {
-            put: input(regs, pos, ring, b"", out, at),
-            word: 0,
-        },
-        Access::InputBytes => Done {
-            put: input_of(line, regs, pos, ring, out, at),
-            word: 0,
-        },
-        Access::Room => Done {
-            put: room(regs, pos, out, at),
-            word: 0,
-        },
-        Access::State => Done {
-            put: state(regs, pos, ring, out, at),
-            word: 0,
-        },
-        Access::Level => Done {
-            put: serial_access::line(regs, pos, out, at),
-            word: 0,
-        },
-        Access::RestoreNone => {
-            let given = regs_in(line);
-            Done {
-                put: restore(regs, pos, ring, &given, b"", out, at),
-                word: 0,
-            }
-        }
-        Access::RestoreBytes => Done {
-            put: restore_given(line, regs, pos, ring, out, at),
-            word: 0,
-        },
-        Access::Unknown => Done {
-            put: unknown(out, at),
-            word: 0,
-        },
+        Access::Write(offset, value) => return port.write(offset, value, out),
+        Access::Read(offset) => return port.read(offset, out),
+        Access::InputNone => port.input(b"", out),
+        Access::InputBytes => input_of(line, port, out),
+        Access::Room => port.room(out),
+        Access::State => port.state(out),
+        Access::Level => port.line(out),
+        Access::RestoreNone => restore(port, &regs_in(line), b"", out),
+        Access::RestoreBytes => restore_given(line, port, out),
+        Access::Unknown => out.unknown(),
     }
+    0
 }
 
 // `b HH..`, with one byte or more.
-fn input_of(
-    line: &[u8],
-    regs: &mut Regs,
-    pos: &mut Pos,
-    ring: &mut Ring,
-    out: &mut Block,
-    at: usize,
-) -> usize
-    requires { at + 4096 ≤ 65536 }
-    ensures { AnswersPort (asks_with (drop 2 line.now) input) regs.old pos.old ring.old
-        regs.new pos.new ring.new out.old at out.new result }
+fn input_of(line: &[u8], port: &mut Port, out: &mut Out)
+    requires { length out.old + 4096 ≤ 65536 }
+    ensures { AnswersPort (asks_with (drop 2 line.now) input) port.old port.new out.old out.new }
 {
     let mut bytes = io::buffer();
-    let Bytes::Are(count) = bytes_from(line, 2, &mut bytes) else {
-        return unknown(out, at);
-    };
-    input(regs, pos, ring, &bytes[..count], out, at)
+    match bytes_from(line, 2, &mut bytes) {
+        Some(count) => port.input(&bytes[..count], out),
+        None => out.unknown(),
+    }
 }

@@ -1,6 +1,5 @@
--- Laws of the bytes that are moved, of the test for reachable ports, of the raises; what each answer of the two calls is; what holds across
+-- Laws of the test for reachable ports, of the raises; what each answer of the two calls is; what holds across
 -- both.
-pub mod Moving
 pub mod Testing
 pub mod Raising
 pub mod Bringing

@@ -3,9 +3,9 @@ use mathlib.Core.Path.{◌≡◌, refl, sym, ap, ◌∙◌}
 use mathlib.Core.Logic.{◌↔◌}
 use mathlib.Core.Bool.{Bool, true, false, cond, not, false≢true, true≢false}
 use mathlib.Core.List.{List, [], ◌∷◌}
-use Prim.Native.Nat.{ℕ, zero, suc, ◌≤◌, ◌<◌}
+use Prim.Native.Nat.{ℕ, suc, ◌≤◌, ◌<◌}
 use native.Mathlib.Omega.{arith}
-use lib.Dec.{lit<, eqb}
+use lib.Dec.{eqb}
 use lib.ListN.{length, get_or}
 use borrow.Author.Tests.{ne_eqb}
 use Rattle.common.specs.Bytes.{Bytes}
@@ -26,14 +26,9 @@ not_so n = (λ e. absurd (false≢true e), λ a. absurd (n a))
 
 -- ---- Bytes
 
-pub bytes_below : (l : List ℕ) → ((i : ℕ) → get_or l i 0 < 256) → Bytes l
+bytes_below : (l : List ℕ) → ((i : ℕ) → get_or l i 0 < 256) → Bytes l
 bytes_below [] h = tt
 bytes_below (x ∷ l) h = (h 0, bytes_below l (λ i. h (suc i)))
-
-byte_at : (l : List ℕ) → Bytes l → (i : ℕ) → get_or l i 0 < 256
-byte_at [] b i = lit< tt
-byte_at (x ∷ l) b zero = b.0
-byte_at (x ∷ l) b (suc i) = byte_at l b.1 i
 
 -- ---- The status
 
@@ -89,7 +84,7 @@ module _ (saved waiting : List ℕ) where
   made_size e f d = ap is_size (sym e) ∙ sym f ∙ d
 
   -- all but the last hold: that decides
-  pub decided : {z : Bool} {status iir : ℕ} → Bytes saved → Bytes waiting → length waiting ≤ size_of saved → get_or saved 1 0 < 16
+  pub decided : {z : Bool} {status iir : ℕ} → ((i : ℕ) → get_or saved i 0 < 256) → ((i : ℕ) → get_or waiting i 0 < 256) → length waiting ≤ size_of saved → get_or saved 1 0 < 16
       → fcr_stored (get_or saved 9 0) ≡ get_or saved 9 0 → get_or saved 6 0 ≡ 0xb0
       → status ≡ cond (some waiting) 0x61 0x60 → get_or saved 5 0 ≡ status → iir ≡ right → get_or saved 2 0 ≡ iir → is_size (size_of saved) ≡ true
       → (z ≡ true) ↔ (spare_registers saved ≡ fresh_spare_registers) → (z ≡ true) ↔ ReachableSaved saved waiting
@@ -101,17 +96,17 @@ module _ (saved waiting : List ℕ) where
       port = record {
         settings = record {
           ier = ier;
-          lcr = byte_at saved b 3;
-          mcr = byte_at saved b 4;
-          scr = byte_at saved b 7;
-          dll = byte_at saved b 0;
-          dlm = byte_at saved b 8;
+          lcr = b 3;
+          mcr = b 4;
+          scr = b 7;
+          dll = b 0;
+          dlm = b 8;
           fcr = fcr;
         };
         iir = iir ∙ e ∙ ap (settled (get_or saved 1 0) (get_or saved 2 0)) (sym (some_is waiting));
         lsr = lsr ∙ status;
         msr = msr;
-        bytes = w;
+        bytes = bytes_below waiting w;
         fits = f;
         sized = refl;
       };

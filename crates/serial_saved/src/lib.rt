@@ -1,4 +1,4 @@
-// A serial port is saved and restored.
+// A serial port is saved and restored. The C interface lends the arrays side by side, and gets a word for an answer.
 #![tactic(auto)]
 
 mod reachable;
@@ -9,16 +9,8 @@ ghost use Rattle.serial_saved.specs.Saved.{saved_of, raised_again};
 ghost use Rattle.serial_saved.specs.Calls.{Saves, Restores};
 
 use common::answer::{ONE_RAISE, REACHABLE, REFUSED};
-use serial::memory;
 use serial::memory::{COUNT, IER, IIR, Pos, Regs, Ring, START};
 use serial::waiting::{count, size};
-
-// All registers, the spare ones too.
-fn copy(from: &Regs, to: &mut Regs)
-    ensures { to.new ≡ from.now }
-{
-    *to = *from;
-}
 
 // The port as it stands: its registers, and the bytes that wait. The answer: how many bytes wait.
 pub fn save(regs: &Regs, pos: &Pos, ring: &Ring, saved: &mut Regs, waiting: &mut Ring) -> u32
@@ -26,7 +18,7 @@ pub fn save(regs: &Regs, pos: &Pos, ring: &Ring, saved: &mut Regs, waiting: &mut
         saved.new waiting.new result }
 {
     let n = count(pos);
-    copy(regs, saved);
+    *saved = *regs;
     ring::unroll(ring, pos[START], n, waiting);
     n
 }
@@ -48,8 +40,7 @@ pub fn restore(regs: &mut Regs, pos: &mut Pos, ring: &mut Ring, saved: &Regs, wa
     if (size(saved) as usize) < len {
         return REFUSED;
     }
-    memory::pos_len(pos);
-    copy(saved, regs);
+    *regs = *saved;
     pos[START] = 0;
     pos[COUNT] = len as u32;
     ring::fill(ring, 0, 0, waiting, len);

@@ -1,6 +1,5 @@
 // Whether a run from a fresh port can have come to what was saved, clause by clause.
 ghost use Rattle.std.specs.Prelude.{◌≡◌, ◌↔◌, List, true, cond, ℕ, ◌≤◌, length};
-ghost use Rattle.common.specs.Bytes.{Bytes};
 ghost use Rattle.common.specs.Lists.{some};
 ghost use Rattle.serial.specs.Layout.{size_of};
 ghost use Rattle.serial_saved.specs.Calls.{ReachableSaved};
@@ -8,23 +7,11 @@ ghost use Rattle.serial_saved.specs.Calls.{ReachableSaved};
 use serial::memory::{FCR, IER, IIR, LSR, MSR, Regs};
 use serial::{memory, waiting};
 
-fn nothing() {}
-
-// Elements of a slice are bytes. A proof learns it from this call, which does nothing.
-fn all_bytes(x: &[u8])
-    ensures { Bytes x.now }
-{
-    nothing();
-}
-
 // LSR says whether a byte waits, of n, and that the transmitter is empty.
 fn status(n: usize) -> u8
     ensures { (q : List ℕ) → length q ≡ n → result ≡ cond (some q) 0x61 0x60 }
 {
-    if n == 0 {
-        return 0x60;
-    }
-    0x61
+    if n == 0 { 0x60 } else { 0x61 }
 }
 
 // All clauses. LCR, MCR, SCR and the divisor may be any bytes, and so may those that wait.
@@ -32,8 +19,6 @@ pub fn is_reachable(saved: &Regs, bytes: &[u8]) -> bool
     requires { length bytes.now ≤ size_of saved.now }
     ensures { (result ≡ true) ↔ ReachableSaved saved.now bytes.now }
 {
-    all_bytes(saved);
-    all_bytes(bytes);
     let ier = saved[IER];
     let iir = saved[IIR];
     let fcr = saved[FCR];

@@ -1,5 +1,5 @@
 // The words of the serial port's lines: what a line asks for, and how the answer to it is spelled. No port is changed here.
-#![tactic(auto)]
+#![tactic(auto, using(std::proofs::Common::append_assoc))]
 
 pub mod answer;
 pub mod line;

@@ -32,47 +32,42 @@ pub enum Access {
     Unknown,
 }
 
+#[tactic(auto, unfolding(crate::specs::Lines::line_of))]
 pub fn parse(line: &[u8]) -> Line
     ensures { result ≡ line_of line.now }
 {
     if fits(line, b"w OO VV") {
-        return Line::OfPort(Access::Write(byte_at(line, 2), byte_at(line, 5)));
+        Line::OfPort(Access::Write(byte_at(line, 2), byte_at(line, 5)))
+    } else if fits(line, b"r OO") {
+        Line::OfPort(Access::Read(byte_at(line, 2)))
+    } else if fits(line, b"b") {
+        Line::OfPort(Access::InputNone)
+    } else if begins(line, b"b ") {
+        Line::OfPort(Access::InputBytes)
+    } else if fits(line, b"room") {
+        Line::OfPort(Access::Room)
+    } else if fits(line, b"state") {
+        Line::OfPort(Access::State)
+    } else if fits(line, b"line") {
+        Line::OfPort(Access::Level)
+    } else {
+        parse_saved(line)
     }
-    if fits(line, b"r OO") {
-        return Line::OfPort(Access::Read(byte_at(line, 2)));
-    }
-    if fits(line, b"b") {
-        return Line::OfPort(Access::InputNone);
-    }
-    if begins(line, b"b ") {
-        return Line::OfPort(Access::InputBytes);
-    }
-    if fits(line, b"room") {
-        return Line::OfPort(Access::Room);
-    }
-    if fits(line, b"state") {
-        return Line::OfPort(Access::State);
-    }
-    if fits(line, b"line") {
-        return Line::OfPort(Access::Level);
-    }
-    parse_saved(line)
 }
 
+#[tactic(auto, unfolding(crate::specs::Lines::saved_line_of))]
 fn parse_saved(line: &[u8]) -> Line
     ensures { result ≡ saved_line_of line.now }
 {
     if fits(line, b"save") {
-        return Line::Save;
+        Line::Save
+    } else if fits(line, b"restore") {
+        Line::Kept
+    } else if fits(line, b"restore DD DD DD DD DD DD DD DD DD -") {
+        Line::OfPort(Access::RestoreNone)
+    } else if begins(line, b"restore DD DD DD DD DD DD DD DD DD ") {
+        Line::OfPort(Access::RestoreBytes)
+    } else {
+        Line::OfPort(Access::Unknown)
     }
-    if fits(line, b"restore") {
-        return Line::Kept;
-    }
-    if fits(line, b"restore DD DD DD DD DD DD DD DD DD -") {
-        return Line::OfPort(Access::RestoreNone);
-    }
-    if begins(line, b"restore DD DD DD DD DD DD DD DD DD ") {
-        return Line::OfPort(Access::RestoreBytes);
-    }
-    Line::OfPort(Access::Unknown)
 }

@@ -5,76 +5,51 @@ use mathlib.Core.List.{List, [], ◌∷◌}
 use native.Mathlib.Numerals.{add-one}
 use native.Mathlib.Nat.{pow-suc, one-le-pow}
 use native.Mathlib.Omega.{arith}
-use borrow.Author.Tests.{lt-ltb, le-ltb, le-leb, lt-leb}
+use borrow.Author.Tests.{lt-ltb, le-ltb}
 use lib.ListN.{length, get_or, take, drop, length-drop, drop_of_length-le}
 use lib.Seq.{drop-cons, take_all}
+use Rattle.std.proofs.Common.{Option, Some, None}
 use Rattle.io.specs.Digits.{hex_digit_ascii, last_digits, IsDigitCount}
 use Rattle.words.specs.Decimal.{longer_by, longer, number_of, decimals, decimal_of}
-use Rattle.words.specs.Put.{Puts}
-use Rattle.words.specs.declared.decimal.Number.{Number}
-use Rattle.words.specs.declared.decimal.Number.TheVariants.{Is, Bad}
-
--- ---- One more digit
-
-module _ (n c : ℕ) where
-  pub below_digits : c < 48 → Bad ≡ longer_by n c
-  unfolding longer_by
-  below_digits h = rw (lt-leb 48 c h)
-
-  pub above_digits : 48 ≤ c → 57 < c → Bad ≡ longer_by n c
-  unfolding longer_by
-  above_digits l h = rw (le-leb 48 c l, lt-leb c 57 h)
-
-  pub too_large : 48 ≤ c → c ≤ 57 → 2 ^ 64 ≤ n * 10 + (c - 48) → Bad ≡ longer_by n c
-  unfolding longer_by
-  too_large l m h = rw (le-leb 48 c l, le-leb c 57 m, le-ltb (n * 10 + (c - 48)) (2 ^ 64) h)
-
-  pub one_longer : 48 ≤ c → c ≤ 57 → n * 10 + (c - 48) < 2 ^ 64 → Is (n * 10 + (c - 48)) ≡ longer_by n c
-  unfolding longer_by
-  one_longer l m h = rw (le-leb 48 c l, le-leb c 57 m, lt-ltb (n * 10 + (c - 48)) (2 ^ 64) h)
 
 -- ---- A word
 
-pub no_digits : (word : List ℕ) → length word ≡ 0 → Bad ≡ number_of word
+pub no_digits : (word : List ℕ) → length word ≡ 0 → None ≡ number_of word
 unfolding number_of
 no_digits [] h = refl
 no_digits (c ∷ word) h = absurd (omega arith)
 
-pub some_digits : (word : List ℕ) → (length word ≡ 0 → ⊥) → number_of word ≡ longer (drop 0 word) (Is 0)
+pub some_digits : (word : List ℕ) → (length word ≡ 0 → ⊥) → number_of word ≡ longer (drop 0 word) (Some 0)
 unfolding number_of
 some_digits [] h = absurd (h refl)
 some_digits (c ∷ word) h = refl
 
 -- no digit makes a number of what is none
-stays_bad : (word : List ℕ) → longer word Bad ≡ Bad
+stays_none : (word : List ℕ) → longer word None ≡ None
 unfolding longer
-stays_bad [] = refl
-stays_bad (c ∷ word) = stays_bad word
+stays_none [] = refl
+stays_none (c ∷ word) = stays_none word
 
 module _ (word : List ℕ) (i n : ℕ) where
-  along : i < length word → longer (drop i word) (Is n) ≡ longer (drop (i + 1) word) (longer_by n (get_or word i 0))
+  along : i < length word → longer (drop i word) (Some n) ≡ longer (drop (i + 1) word) (longer_by n (get_or word i 0))
   unfolding longer
   along h = rw (add-one, drop-cons word i 0 h)
 
-  pub fails : i < length word → longer_by n (get_or word i 0) ≡ Bad → longer (drop i word) (Is n) ≡ Bad
-  fails h e = along h ∙ rw e (stays_bad (drop (i + 1) word))
+  pub fails : i < length word → longer_by n (get_or word i 0) ≡ None → longer (drop i word) (Some n) ≡ None
+  fails h e = along h ∙ rw e (stays_none (drop (i + 1) word))
 
-  pub goes_on : (m : ℕ) → i < length word → longer_by n (get_or word i 0) ≡ Is m
-      → longer (drop i word) (Is n) ≡ longer (drop (i + 1) word) (Is m)
+  pub goes_on : (m : ℕ) → i < length word → longer_by n (get_or word i 0) ≡ Some m
+      → longer (drop i word) (Some n) ≡ longer (drop (i + 1) word) (Some m)
   goes_on m h e = along h ∙ rw e
 
-  pub ends : length word ≤ i → longer (drop i word) (Is n) ≡ Is n
+  pub ends : length word ≤ i → longer (drop i word) (Some n) ≡ Some n
   unfolding longer
   ends h = rw (drop_of_length-le word h)
 
 -- ---- A word that ends a line
 
-pub from_place : (line : List ℕ) (i : ℕ) {r : Number} → r ≡ number_of (take (length line - i) (drop i line)) → r ≡ number_of (drop i line)
+pub from_place : (line : List ℕ) (i : ℕ) {r : Option ℕ} → r ≡ number_of (take (length line - i) (drop i line)) → r ≡ number_of (drop i line)
 from_place line i e = let whole = take_all (length line - i) (drop i line) (simp length-drop (omega arith)) in rw whole at e
-
-pub past_end : (line : List ℕ) (i : ℕ) → length line ≤ i → Bad ≡ number_of (drop i line)
-unfolding number_of
-past_end line i h = rw (drop_of_length-le line h)
 
 -- ---- The digits of a number
 
@@ -100,7 +75,6 @@ fewest_digits (suc most) (suc (suc k)) n h f =
     (omega arith, omega (arith, high), λ g. rw one_less (omega (arith, rw (pow-suc 10 k) at low))) in
     rw (le-ltb n 10 (omega (arith, one-le-pow k 10 (omega arith), rw (pow-suc 10 k) at low)), ← fewest_digits most (suc k) (n / 10) (omega arith) tenth, last_digit n) refl
 
-pub put_fewest : {n k : ℕ} {word out out' : List ℕ} {at r : ℕ} → k ≤ 20 → IsDigitCount 10 1 n k → word ≡ last_digits 10 k n → Puts out at word out' r
-    → Puts out at (decimal_of n) out' r
+pub fewest : {n k : ℕ} → k ≤ 20 → IsDigitCount 10 1 n k → last_digits 10 k n ≡ decimal_of n
 unfolding decimal_of
-put_fewest {n} {k} h f e p = rw (← fewest_digits 20 k n h f, ← e) p
+fewest {n} {k} h f = fewest_digits 20 k n h f

@@ -1,5 +1,4 @@
-pub mod Putting
 mod Decimals
-mod Digits
 pub mod Patterns
 mod Pairs
+pub mod Saying

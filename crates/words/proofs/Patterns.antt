@@ -1,13 +1,12 @@
 -- Laws of `fits_of`, for a search that goes along a line and a pattern.
-use Prim.Native.Nat.{ℕ, suc, ◌+◌, ◌-◌, ◌≤◌, ◌<◌}
+use Prim.Native.Nat.{ℕ, suc, ◌<◌}
 use mathlib.Core.Path.{◌≡◌, refl, sym, ap, ◌∙◌}
 use mathlib.Core.Bool.{Bool, true, false, true≢false, ◌&&◌}
 use mathlib.Core.List.{List, [], ◌∷◌}
 use native.Mathlib.Decide.{ℕ_discrete}
-use native.Mathlib.Numerals.{add-one}
 use native.Mathlib.Omega.{arith}
-use lib.ListN.{length, get_or, take, drop, length-take, drop_of_length-le}
-use lib.Seq.{drop-cons}
+use lib.ListN.{length, take, length-take}
+use Rattle.std.specs.List.{list_all, zip}
 use Rattle.words.specs.Pattern.{fits_of, begins_like, stands_for}
 
 -- a line of another length does not fit
@@ -29,28 +28,13 @@ same_length pattern line f = go (ℕ_discrete (length line) (length pattern))
     go (yes e) = e
     go (no n) = absurd (true≢false (sym f ∙ other_length pattern line n))
 
-module _ (pattern line : List ℕ) (i : ℕ) where
-  -- from a place on: the characters there, and the rest
-  along : i < length pattern → i < length line
-      → fits_of (drop i pattern) (drop i line) ≡ stands_for (get_or pattern i 0) (get_or line i 0) && fits_of (drop (i + 1) pattern)
-      (drop (i + 1) line)
-  unfolding fits_of
-  along p l = rw (add-one, drop-cons pattern i 0 p, drop-cons line i 0 l)
-
-  -- a character that its pattern does not stand for
-  pub fails : i < length pattern → i < length line → stands_for (get_or pattern i 0) (get_or line i 0) ≡ false
-      → fits_of (drop i pattern) (drop i line) ≡ false
-  fails p l e = along p l ∙ rw e
-
-  -- one that it stands for
-  pub goes_on : i < length pattern → i < length line → stands_for (get_or pattern i 0) (get_or line i 0) ≡ true
-      → fits_of (drop i pattern) (drop i line) ≡ fits_of (drop (i + 1) pattern) (drop (i + 1) line)
-  goes_on p l e = along p l ∙ rw e
-
-  -- the end of both
-  pub ends : length pattern ≤ i → length line ≤ i → fits_of (drop i pattern) (drop i line) ≡ true
-  unfolding fits_of
-  ends p l = rw (drop_of_length-le pattern p, drop_of_length-le line l)
+-- a line of the same length fits where each of its characters does
+pub each_fits : (pattern line : List ℕ) → length line ≡ length pattern → list_all (λ (pair : ℕ × ℕ). stands_for pair.0 pair.1) (zip pattern line) ≡ fits_of pattern line
+unfolding fits_of
+each_fits [] [] h = refl
+each_fits [] (c ∷ line) h = absurd (omega arith)
+each_fits (p ∷ pattern) [] h = absurd (omega arith)
+each_fits (p ∷ pattern) (c ∷ line) h = ap (λ (b : Bool). stands_for p c && b) (each_fits pattern line (omega arith))
 
 -- ---- The beginning of a line
 
@@ -58,8 +42,3 @@ pub shorter : (pattern line : List ℕ) → length line < length pattern → fal
 unfolding begins_like
 shorter pattern line h =
     sym (other_length pattern (take (length pattern) line) (λ e. let l = length-take (length pattern) line in omega arith))
-
-pub begins_at : (pattern line : List ℕ) {r : Bool} → r ≡ fits_of pattern (take (length pattern - 0) (drop 0 line))
-    → r ≡ begins_like pattern line
-unfolding begins_like
-begins_at pattern line e = let z : length pattern - 0 ≡ length pattern = omega arith in rw z at e

@@ -1,24 +1,21 @@
 -- Hexadecimal digits, lower case.
-use Rattle.std.specs.Prelude.{ℕ, ◌+◌, ◌-◌, ◌*◌, ◌/◌, ◌%◌, ◌≡◌, Bool, true, false, cond, ◌&&◌, List, [], ◌∷◌, ◌++◌, length, get_or, take, ltb, leb}
-use Rattle.words.specs.declared.hex.Bytes.{Bytes}
-use Rattle.words.specs.declared.hex.Bytes.TheVariants.{Are, Bad}
+use Rattle.std.specs.Prelude.{ℕ, ◌+◌, ◌-◌, ◌*◌, ◌/◌, ◌%◌, ◌≡◌, Bool, true, false, cond, ◌&&◌, Option, Some, None, is_some, unwrap_or, List, [], ◌∷◌, ◌++◌, length, get_or, take, ltb, leb}
 
--- The value of a digit: `0` to `9` are the characters 48 to 57, `a` to `f` 97 to 102. Of any other character 16.
-unfoldable pub value_of : ℕ → ℕ
-value_of c = cond (ltb c 48) 16 (cond (leb c 57) (c - 48) (cond (ltb c 97) 16 (cond (leb c 102) (c - 97 + 10) 16)))
+-- The value of a digit: `0` to `9` are the characters 48 to 57, `a` to `f` 97 to 102. No other character has one.
+unfoldable pub value_of : ℕ → Option ℕ
+value_of c = cond (leb 48 c && leb c 57) (Some (c - 48)) (cond (leb 97 c && leb c 102) (Some (c - 97 + 10)) None)
 
 -- The byte of two digits, where another character counts as 0.
 unfoldable pub byte_of : ℕ → ℕ → ℕ
-byte_of high low = value_of high % 16 * 16 + value_of low % 16
+byte_of high low = unwrap_or (value_of high) 0 * 16 + unwrap_or (value_of low) 0
 
 -- The byte of the two digits of a line at a place.
 unfoldable pub byte_at : List ℕ → ℕ → ℕ
 byte_at line i = byte_of (get_or line i 0) (get_or line (i + 1) 0)
 
 -- How many bytes digits make.
-unfoldable pub count_of : Bytes → ℕ
-count_of (Are n) = n
-count_of Bad = 0
+abbrev pub count_of : Option ℕ → ℕ
+count_of r = unwrap_or r 0
 
 -- The bytes of digits, two each.
 unfoldable pub bytes_of : List ℕ → List ℕ
@@ -30,15 +27,15 @@ bytes_of (high ∷ low ∷ rest) = byte_of high low ∷ bytes_of rest
 unfoldable pub are_pairs : List ℕ → Bool
 are_pairs [] = true
 are_pairs (high ∷ []) = false
-are_pairs (high ∷ low ∷ rest) = ltb (value_of high) 16 && (ltb (value_of low) 16 && are_pairs rest)
+are_pairs (high ∷ low ∷ rest) = is_some (value_of high) && (is_some (value_of low) && are_pairs rest)
 
 -- One byte at least, and no more than the memory for them holds.
 unfoldable pub are_bytes : List ℕ → Bool
 are_bytes digits = ltb 0 (length digits) && (leb (length digits) 8192 && are_pairs digits)
 
 -- What is told of digits: how many bytes they make, which lie from the memory's first place on; or that they make none.
-pub record Gives (digits bytes' : List ℕ) (r : Bytes) : Type 0 where
-  pub told : r ≡ cond (are_bytes digits) (Are (length (bytes_of digits))) Bad
+pub record Gives (digits bytes' : List ℕ) (r : Option ℕ) : Type 0 where
+  pub told : r ≡ cond (are_bytes digits) (Some (length (bytes_of digits))) None
   pub first : take (count_of r) bytes' ≡ cond (are_bytes digits) (bytes_of digits) []
 
 -- The digit of a value below 16.

@@ -4,8 +4,8 @@
 
 pub mod decimal;
 pub mod hex;
+pub mod out;
 pub mod pattern;
-pub mod put;
 
-// What is held of a list, and what waits of its answers.
+// What is held of a list, and the memory in which its answers wait.
 pub type Block = [u8; 65536];

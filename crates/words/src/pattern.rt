@@ -9,39 +9,24 @@ use crate::hex::value;
 pub fn fits(line: &[u8], pattern: &[u8]) -> bool
     ensures { result ≡ fits_of pattern.now line.now }
 {
-    let n = pattern.len();
-    if line.len() != n {
-        return false;
-    }
-    let mut i = 0;
-    while i < n {
-        if !stands_for(pattern[i], line[i]) {
-            return false;
-        }
-        i += 1;
-    }
-    true
+    line.len() == pattern.len() && pattern.iter().zip(line).all(|(p, c)| stands_for(*p, *c))
 }
 
 // Whether `line` begins like `pattern`.
+#[tactic(auto, using(std::proofs::lemmas::Bool::Decides::nat_tests, crate::proofs::Patterns::shorter), unfolding(crate::specs::Pattern::begins_like))]
 pub fn begins(line: &[u8], pattern: &[u8]) -> bool
     ensures { result ≡ begins_like pattern.now line.now }
 {
     let n = pattern.len();
-    if line.len() < n {
-        return false;
-    }
-    fits(&line[0..n], pattern)
+    n <= line.len() && fits(&line[..n], pattern)
 }
 
+#[tactic(auto, using(std::proofs::lemmas::Bool::Decides::nat_tests), unfolding(crate::specs::Pattern::stands_for))]
 fn stands_for(p: u8, c: u8) -> bool
     ensures { result ≡ stands_for p c }
 {
-    if p < b'A' {
-        return c == p;
+    match p {
+        b'A'..=b'Z' => value(c).is_some(),
+        _ => c == p,
     }
-    if p > b'Z' {
-        return c == p;
-    }
-    value(c) < 16
 }

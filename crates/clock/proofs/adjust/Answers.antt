@@ -3,4 +3,4 @@ use Rattle.clock.proofs.Stores.{stores_lr}
 use Rattle.clock.proofs.adjust.Goals as goal
 
 pub returns : goal.returns
-returns c = let a = c.args in stores_lr a.clock.now c.eight_words.ensures.eight a.load a.ahead
+returns c = let a = c.args in stores_lr a.clock.now c.told-clock a.load a.ahead

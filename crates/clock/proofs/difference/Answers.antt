@@ -4,4 +4,4 @@ use Rattle.clock.proofs.Time.{difference_signed}
 use Rattle.clock.proofs.difference.Goals as goal
 
 pub returns : goal.returns
-returns c = let a = c.args in difference_signed a.value a.now _ (omega arith) (omega arith) (omega arith) c.wrapping_sub_u64.ensures.value
+returns c = let a = c.args in difference_signed a.value a.now _ (omega arith) (omega arith) (omega arith) (omega arith)

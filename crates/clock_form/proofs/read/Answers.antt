@@ -4,5 +4,5 @@ use Rattle.clock_form.proofs.read.Goals as goal
 
 pub returns : goal.returns
 returns c =
-    reads_words c.args.form.now c.args.saved.now c.eight_words.ensures.eight c.word.ensures c.word-2.ensures c.word-3.ensures
+    reads_words c.args.form.now c.args.saved.now c.told-saved c.word.ensures c.word-2.ensures c.word-3.ensures
     c.word-4.ensures c.word-5.ensures c.word-6.ensures

@@ -4,5 +4,5 @@ use Rattle.clock_form.proofs.write.Goals as goal
 
 pub returns : goal.returns
 returns c =
-    writes _ _ c.eight_words.ensures.eight c.put_version.ensures c.put_word.ensures c.put_word-2.ensures c.put_word-3.ensures
+    writes _ _ c.told-saved c.put_version.ensures c.put_word.ensures c.put_word-2.ensures c.put_word-3.ensures
     c.put_word-4.ensures c.put_word-5.ensures c.put_word-6.ensures

@@ -4,5 +4,5 @@ use Rattle.counters.proofs.serial_count.Goals as goal
 
 pub returns : goal.returns
 returns c =
-    serial_counts c.args.counters.now c.four.ensures c.args.answer c.says.ensures c.count-reads.ensures
-    c.says-2.ensures c.count-sent.ensures c.says-3.ensures c.count-none_left.ensures
+    serial_counts c.args.counters.now c.told-counters c.args.answer c.says.ensures c.count.ensures
+    c.says-2.ensures c.count-2.ensures c.says-3.ensures c.count-3.ensures

@@ -3,4 +3,4 @@ use Rattle.counters.proofs.Stores.{serial_loses}
 use Rattle.counters.proofs.serial_lost.Goals as goal
 
 pub returns : goal.returns
-returns c = serial_loses c.args.counters.now c.four.ensures c.count.ensures
+returns c = serial_loses c.args.counters.now c.told-counters c.count.ensures

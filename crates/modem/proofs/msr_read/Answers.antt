@@ -24,7 +24,3 @@ joined mcr msr h = rw (wired mcr h, and_mask msr 4, or_shifted_r (half mcr) 4 (m
 pub returns-then-is_loop : goal.returns-then-is_loop
 unfolding msr_read
 returns-then-is_loop c = rw (sym c.is_loop.ensures ∙ c.if-is_loop.true) (joined _ _ (omega arith))
-
-pub returns : goal.returns
-unfolding msr_read
-returns c = rw (sym c.is_loop.ensures ∙ c.if-is_loop.false)

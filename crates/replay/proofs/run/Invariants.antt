@@ -3,8 +3,9 @@ use Rattle.pieces.specs.Pieces.{Sound, Answered}
 use Rattle.lines.specs.Runs.{Ran}
 use Rattle.replay.proofs.run.Given as goal
 
-abbrev pub invariant-loop-turns : goal.invariant-loop-turns
-invariant-loop-turns g l = Sound l.turn.state × Answered l.turn.state × Ran l.held l.out l.turn
-
-abbrev pub decreases-loop-turns : goal.decreases-loop-turns
-decreases-loop-turns g l = l.turns
+abbrev pub invariant-loop : goal.invariant-loop
+invariant-loop g l = record {
+  sound : Sound l.turn.state;
+  answered : Answered l.turn.state;
+  ran : Ran l.held l.out l.turn;
+}

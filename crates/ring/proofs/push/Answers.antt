@@ -4,4 +4,4 @@ use Rattle.ring.proofs.Laws.{put_none, put_more}
 use Rattle.ring.proofs.push.Goals as goal
 
 pub returns : goal.returns
-returns c = rw c.place.ensures (put_more places_here _ (put_none places_here _ _ _) c.requires c.ring_len.ensures)
+returns c = rw c.place.ensures (put_more places_here _ (put_none places_here _ _ _) c.requires c.told-ring)

@@ -19,4 +19,4 @@ returns-then-size-n c = let a = c.args in line_full a.regs.now a.pos.now a.ring.
 
 pub returns : goal.returns
 unfolding port_of
-returns c = let a = c.args in line_receives a.regs.now a.pos.now a.ring.now _ (sym c.is_loop.ensures ∙ c.if-is_loop.false) c.if-len-eq0.false c.regs_len.ensures c.pos_len.ensures _ _ refl (omega (arith, c.if-size-n.false, c.size-size.ensures)) (omega (arith, c.fitting-k.ensures, c.size-size.ensures)) c.fill.ensures c.receive.ensures refl
+returns c = let a = c.args in line_receives a.regs.now a.pos.now a.ring.now _ (sym c.is_loop.ensures ∙ c.if-is_loop.false) c.if-len-eq0.false c.told-regs c.told-pos _ _ refl (omega (arith, c.if-size-n.false, c.size-size.ensures)) (omega (arith, c.min-k.ensures, c.size-size.ensures)) c.fill.ensures c.receive.ensures refl

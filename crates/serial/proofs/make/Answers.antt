@@ -1,6 +1,9 @@
--- The answer is a law of `Registers`.
-use Rattle.serial.proofs.Registers.{makes_fresh}
+-- The answer is the definition, opened.
+use mathlib.Core.Path.{refl}
+use Rattle.ring.specs.Ring.{queue}
+use Rattle.serial.specs.Layout.{port_of}
 use Rattle.serial.proofs.make.Goals as goal
 
 pub returns : goal.returns
-returns c = let a = c.args in makes_fresh a.regs.now a.pos.now c.regs_len.ensures c.pos_len.ensures a.told
+unfolding port_of queue
+returns c = record { holds = λ ring. refl; placed = refl; spares_zero = refl }

@@ -13,7 +13,7 @@ from_two offset a b = omega arith
 
 pub returns-then-is_open : goal.returns-then-is_open
 unfolding port_of read_register
-returns-then-is_open c = let a = c.args in answers a.regs.now a.pos.now a.ring.now a.offset _ (at_dll _ _ (sym c.is_open.ensures ∙ c.if-is_open.true) c.if-offset-eq0.true) refl c.wide.ensures
+returns-then-is_open c = let a = c.args in answers a.regs.now a.pos.now a.ring.now a.offset _ (at_dll _ _ (sym c.is_open.ensures ∙ c.if-is_open.true) c.if-offset-eq0.true) refl c.from.ensures
 
 pub returns-then-offset-eq0 : goal.returns-then-offset-eq0
 unfolding port_of read_register
@@ -21,15 +21,15 @@ returns-then-offset-eq0 c = let a = c.args in hands_on a.regs.now a.pos.now a.ri
 
 pub returns-then-is_status_or_control : goal.returns-then-is_status_or_control
 unfolding port_of
-returns-then-is_status_or_control c = let a = c.args in let k = c.is_status_or_control.ensures.le_offset c.if-is_status_or_control.true in answers_kept a.regs.now a.pos.now a.ring.now a.offset _ k.0 k.1 (c.wide-then-is_status_or_control.ensures ∙ c.at.ensures)
+returns-then-is_status_or_control c = let a = c.args in let k = c.is_status_or_control.ensures.le_offset c.if-is_status_or_control.true in answers_kept a.regs.now a.pos.now a.ring.now a.offset _ k.0 k.1 (c.from-then-is_status_or_control.ensures ∙ c.at.ensures)
 
 pub returns-then-is_open-2 : goal.returns-then-is_open-2
 unfolding port_of read_register
-returns-then-is_open-2 c = let a = c.args in let one = c.in-1.is in answers a.regs.now a.pos.now a.ring.now a.offset _ (at_dlm _ _ (sym c.is_open-in-1.ensures ∙ c.if-is_open-2.true) (omega (arith, one)) (λ z. omega (arith, one))) refl c.wide-then-is_open-2.ensures
+returns-then-is_open-2 c = let a = c.args in let one = c.in-1.is in answers a.regs.now a.pos.now a.ring.now a.offset _ (at_dlm _ _ (sym c.is_open-in-1.ensures ∙ c.if-is_open-2.true) (omega (arith, one)) (λ z. omega (arith, one))) refl c.from-then-is_open-2.ensures
 
-pub returns-in-1 : goal.returns-in-1
+pub returns-else-is_open-2 : goal.returns-else-is_open-2
 unfolding port_of read_register
-returns-in-1 c = let a = c.args in let one = c.in-1.is in answers a.regs.now a.pos.now a.ring.now a.offset _ (at_ier _ _ (sym c.is_open-in-1.ensures ∙ c.if-is_open-2.false) (omega (arith, one)) (λ z. omega (arith, one))) refl c.wide-in-1.ensures
+returns-else-is_open-2 c = let a = c.args in let one = c.in-1.is in answers a.regs.now a.pos.now a.ring.now a.offset _ (at_ier _ _ (sym c.is_open-in-1.ensures ∙ c.if-is_open-2.false) (omega (arith, one)) (λ z. omega (arith, one))) refl c.from-else-is_open-2.ensures
 
 pub returns-in-2 : goal.returns-in-2
 unfolding port_of read_register
@@ -37,11 +37,11 @@ returns-in-2 c = let a = c.args in hands_on a.regs.now a.pos.now a.ring.now a.of
 
 pub returns-in-6 : goal.returns-in-6
 unfolding port_of addressed read_register
-returns-in-6 c = let a = c.args in answers_at a.regs.now a.pos.now a.ring.now a.offset _ 6 c.in-6.is refl (c.wide-in-6.ensures ∙ c.msr_read.ensures)
+returns-in-6 c = let a = c.args in answers_at a.regs.now a.pos.now a.ring.now a.offset _ 6 c.in-6.is refl (c.from-in-6.ensures ∙ c.msr_read.ensures)
 
 pub returns-in-7 : goal.returns-in-7
 unfolding port_of addressed read_register
-returns-in-7 c = let a = c.args in answers_at a.regs.now a.pos.now a.ring.now a.offset _ 7 c.in-7.is refl c.wide-in-7.ensures
+returns-in-7 c = let a = c.args in answers_at a.regs.now a.pos.now a.ring.now a.offset _ 7 c.in-7.is refl c.from-in-7.ensures
 
 pub returns-in_default : goal.returns-in_default
 unfolding port_of read_register

@@ -7,11 +7,11 @@ use Rattle.serial.proofs.write.Goals as goal
 
 pub returns-then-offset-eq0 : goal.returns-then-offset-eq0
 unfolding port_of
-returns-then-offset-eq0 c = let a = c.args in stores_dll a.regs.now a.pos.now a.ring.now c.regs_len.ensures _ _ (sym c.is_open.ensures ∙ c.if-is_open.true) c.if-offset-eq0.true
+returns-then-offset-eq0 c = let a = c.args in stores_dll a.regs.now a.pos.now a.ring.now c.told-regs _ _ (sym c.is_open.ensures ∙ c.if-is_open.true) c.if-offset-eq0.true
 
 pub returns-then-is_open : goal.returns-then-is_open
 unfolding port_of
-returns-then-is_open c = let a = c.args in stores_dlm a.regs.now a.pos.now a.ring.now c.regs_len.ensures _ _ (sym c.is_open.ensures ∙ c.if-is_open.true) c.if-offset-lt2.true c.if-offset-eq0.false
+returns-then-is_open c = let a = c.args in stores_dlm a.regs.now a.pos.now a.ring.now c.told-regs _ _ (sym c.is_open.ensures ∙ c.if-is_open.true) c.if-offset-lt2.true c.if-offset-eq0.false
 
 pub returns-then-offset-eq0-2 : goal.returns-then-offset-eq0-2
 unfolding port_of
@@ -27,15 +27,15 @@ returns-in-2 c = let a = c.args in controls a.regs.now a.pos.now a.ring.now a.of
 
 pub returns-in-3 : goal.returns-in-3
 unfolding port_of
-returns-in-3 c = let a = c.args in stores_lcr a.regs.now a.pos.now a.ring.now c.regs_len.ensures _ _ c.in-3.is
+returns-in-3 c = let a = c.args in stores_lcr a.regs.now a.pos.now a.ring.now c.told-regs _ _ c.in-3.is
 
 pub returns-in-4 : goal.returns-in-4
 unfolding port_of
-returns-in-4 c = let a = c.args in stores_mcr a.regs.now a.pos.now a.ring.now c.regs_len.ensures _ _ c.in-4.is
+returns-in-4 c = let a = c.args in stores_mcr a.regs.now a.pos.now a.ring.now c.told-regs _ _ c.in-4.is
 
 pub returns-in-7 : goal.returns-in-7
 unfolding port_of
-returns-in-7 c = let a = c.args in stores_scr a.regs.now a.pos.now a.ring.now c.regs_len.ensures _ _ c.in-7.is
+returns-in-7 c = let a = c.args in stores_scr a.regs.now a.pos.now a.ring.now c.told-regs _ _ c.in-7.is
 
 pub returns-in_default : goal.returns-in_default
 unfolding port_of

@@ -1,4 +1,5 @@
 use native.Mathlib.Omega.{arith}
+use mathlib.Core.Path.{refl}
 use Rattle.common.specs.Forms.{too_short, trailing, too_many}
 use Rattle.serial_form.proofs.Reading.{too_many_lem, too_few_lem, left_over_lem}
 use Rattle.serial_form.proofs.Answers.{refuses, accepts}
@@ -14,6 +15,4 @@ pub returns-then-n-bytes : goal.returns-then-n-bytes
 returns-then-n-bytes c = refuses trailing _ _ (left_over_lem _ _ _ (omega (arith, c.size.ensures)) c.if-n-bytes.true)
 
 pub returns : goal.returns
-returns c =
-    accepts _ _ _ _ _ (omega (arith, c.size.ensures)) (omega arith) c.regs_len.ensures
-    c.regs_len-2.ensures c.ring_len.ensures c.put.ensures c.put-2.ensures
+returns c = accepts _ _ _ _ _ (omega (arith, c.size.ensures)) (omega arith) c.told-waiting refl c.put.ensures

@@ -1,5 +1,5 @@
-use Rattle.common.specs.Bytes.{value_of}
 use borrow.Author.Rules.{rules}
+use Rattle.common.specs.Bytes.{value_of}
 use Rattle.serial_form.proofs.number.Goals as goal
 
 pub returns : goal.returns

@@ -4,5 +4,5 @@ use Rattle.serial_form.proofs.write.Goals as goal
 pub returns : goal.returns
 returns c =
     let a = c.args in
-    writes a.saved.now a.waiting.now a.form.now c.regs_len.ensures c.put_number.ensures c.put.ensures
+    writes a.saved.now a.waiting.now a.form.now c.told-saved c.put_number.ensures c.put.ensures
     c.put-2.ensures c.put_number-2.ensures c.put-3.ensures

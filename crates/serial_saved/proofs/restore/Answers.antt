@@ -1,4 +1,5 @@
 -- Each answer is a law of `Bringing`.
+use mathlib.Core.Path.{refl}
 use native.Mathlib.Omega.{arith}
 use Rattle.serial_saved.specs.Saved.{saved_of}
 use Rattle.serial_saved.proofs.Raising.{at_most_two}
@@ -19,4 +20,4 @@ overflow_add-result c =
     omega (arith, c.raises.ensures a.waiting.now (some_is a.waiting.now), at_most_two (saved_of a.saved.now a.waiting.now), (as_number c.is_reachable-told.result).1)
 
 pub returns : goal.returns
-returns c = let a = c.args in restores a.saved.now a.waiting.now a.regs.now a.pos.now a.ring.now _ _ _ _ (omega (arith, c.if-size-len.false, c.size.ensures)) c.pos_len.ensures c.copy.ensures c.fill.ensures c.is_reachable-told.ensures (c.raises.ensures a.waiting.now (some_is a.waiting.now))
+returns c = let a = c.args in restores a.saved.now a.waiting.now a.regs.now a.pos.now a.ring.now _ _ _ _ (omega (arith, c.if-size-len.false, c.size.ensures)) c.told-pos refl c.fill.ensures c.is_reachable-told.ensures (c.raises.ensures a.waiting.now (some_is a.waiting.now))

@@ -8,4 +8,4 @@ returns c =
     let a = c.args in
     λ ring.
     rw c.store.ensures
-    (writes_ier a.regs.now a.pos.now ring c.regs_len.ensures a.value _ c.ier_stored-ier.ensures c.enabling-told.ensures (omega arith))
+    (writes_ier a.regs.now a.pos.now ring c.told-regs a.value _ c.ier_stored-ier.ensures c.enabling-told.ensures (omega arith))

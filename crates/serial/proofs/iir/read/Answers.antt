@@ -6,4 +6,4 @@ use Rattle.serial.proofs.iir.read.Goals as goal
 pub returns : goal.returns
 returns c =
     let a = c.args in
-    λ ring. identifies a.regs.now a.pos.now ring c.regs_len.ensures c.after_identification.ensures (c.wide.ensures ∙ c.identification.ensures)
+    λ ring. identifies a.regs.now a.pos.now ring c.told-regs c.after_identification.ensures (c.from.ensures ∙ c.identification.ensures)

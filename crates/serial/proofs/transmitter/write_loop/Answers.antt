@@ -5,7 +5,7 @@ use Rattle.serial.proofs.Looping.{loop_drops, loop_receives}
 use Rattle.serial.proofs.transmitter.write_loop.Goals as goal
 
 pub returns-then-size-n : goal.returns-then-size-n
-returns-then-size-n c = let a = c.args in loop_drops a.regs.now a.pos.now a.ring.now c.regs_len.ensures _ refl a.value c.emptied-raises.ensures (omega (arith, c.if-size-n.true, c.size-size.ensures)) (omega arith)
+returns-then-size-n c = let a = c.args in loop_drops a.regs.now a.pos.now a.ring.now c.told-regs _ refl a.value c.emptied-raises.ensures (omega (arith, c.if-size-n.true, c.size-size.ensures)) (omega arith)
 
 pub returns : goal.returns
-returns c = let a = c.args in loop_receives a.regs.now a.pos.now a.ring.now c.regs_len.ensures _ refl a.value c.pos_len.ensures c.emptied-raises.ensures (omega (arith, c.if-size-n.false, c.size-size.ensures)) c.push.ensures c.receive.ensures (omega arith)
+returns c = let a = c.args in loop_receives a.regs.now a.pos.now a.ring.now c.told-regs _ refl a.value c.told-pos c.emptied-raises.ensures (omega (arith, c.if-size-n.false, c.size-size.ensures)) c.push.ensures c.receive.ensures (omega arith)

@@ -15,5 +15,5 @@ pub returns : goal.returns
 unfolding port_of
 returns c =
     let a = c.args in
-    sends a.regs.now a.pos.now a.ring.now c.regs_len.ensures a.value (sym c.is_loop.ensures ∙ c.if-is_loop.false) c.emptied-raises.ensures
-    (omega (arith, c.wide.ensures))
+    sends a.regs.now a.pos.now a.ring.now c.told-regs a.value (sym c.is_loop.ensures ∙ c.if-is_loop.false) c.emptied-raises.ensures
+    (omega (arith, c.from.ensures))

@@ -33,7 +33,7 @@ pub returns : goal.returns
 returns c =
     let saved = c.args.saved.now in
     let waiting = c.args.bytes.now in
-    decided saved waiting c.all_bytes.ensures c.all_bytes-2.ensures c.requires (omega (arith, c.if-ier-ge16.false))
+    decided saved waiting (λ i. omega (arith, c.fits-saved i)) (λ i. omega (arith, c.type_inv.bytes i)) c.requires (omega (arith, c.if-ier-ge16.false))
     c.if-fcr.false c.if-saved-ne176.false (c.status.ensures waiting refl)
     c.if-saved-status.false c.settled.ensures c.if-iir-settled.false
     (made_size saved waiting c.size.ensures c.is_size.ensures (c.if-not-is_size.false))

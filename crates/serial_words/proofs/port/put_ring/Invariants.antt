@@ -1,14 +1,12 @@
 -- Byte by byte.
-use Rattle.words.specs.Put.{Puts}
+use Rattle.std.proofs.Common.{◌≡◌, ◌+◌, ◌≤◌, ◌*◌, ◌++◌, length}
 use Rattle.ring.specs.Ring.{queue}
 use Rattle.serial.specs.Layout.{places}
 use Rattle.serial_words.specs.Said.{bytes_say}
-use Prim.Native.Nat.{◌+◌, ◌-◌, ◌≤◌}
-use mathlib.Core.Path.{◌≡◌}
 use Rattle.serial_words.proofs.port.put_ring.Given as goal
 
 abbrev pub invariant-loop-i : goal.invariant-loop-i
-invariant-loop-i l = (l.i ≤ l.count) × (l.next ≡ l.at + l.i + l.i) × Puts l.initial.out l.at (bytes_say (queue places l.ring l.start l.i)) l.out l.next
-
-abbrev pub decreases-loop-i : goal.decreases-loop-i
-decreases-loop-i l = l.count - l.i
+invariant-loop-i l = record {
+  near : length l.out ≤ length l.initial.out + 2 * l.i;
+  said : l.out ≡ l.initial.out ++ bytes_say (queue places l.ring l.start l.i);
+}

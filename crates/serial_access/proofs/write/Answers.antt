@@ -1,7 +1,0 @@
--- The answer is a law of `Saying`.
-use Rattle.serial_access.proofs.Saying.{writes}
-use borrow.Author.Rules.{rules}
-use Rattle.serial_access.proofs.write.Goals as goal
-
-pub returns-clause-did_write : goal.returns-clause-did_write
-returns-clause-did_write c = writes _ _ (search rules) c.write-does.ensures c.put-a.ensures c.put_sent-b.ensures.puts c.put_raises-put.ensures.puts
