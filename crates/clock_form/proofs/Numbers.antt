@@ -1,12 +1,10 @@
 -- Numbers among bytes: what four loads find, and what the stores leave.
-use mathlib.Core.Path.{◌≡◌, refl, sym, ◌∙◌}
+use mathlib.Core.Path.{◌≡◌, refl}
 use mathlib.Core.List.{List, [], ◌∷◌}
 use Prim.Native.Nat.{ℕ, suc, ◌+◌, ◌≤◌}
 use native.Mathlib.Omega.{arith}
 use lib.ListN.{length, get_or, set}
-use lib.Seq.{drop-cons, sets, sets-eq, take-length}
-use borrow.Rule.Slice.PartMut.{put_mid}
-use Rattle.std.proofs.lemmas.Slice.{put_mid-paste}
+use lib.Seq.{drop-cons, sets}
 use Rattle.common.specs.Bytes.{bytes_of, value_of}
 use Rattle.clock.proofs.Stores.{eight_are}
 use Rattle.clock_form.specs.Form.{current, form_length, bytes_of_words, form_of, word_at, words_in}
@@ -35,11 +33,12 @@ four_at form at h =
 
 -- ---- Stores
 
--- A part is copied over, as the code has it.
-pub in_place : (form : List ℕ) (at n : ℕ) (bytes part : List ℕ) → at + length bytes ≤ length form → length bytes ≡ n → part ≡ bytes
-    → put_mid at n form part ≡ sets form at bytes
-in_place form at n bytes part room e f =
-    put_mid-paste at n form part bytes (length bytes) f e refl ∙ rw (take-length bytes) (sym (sets-eq bytes form at room))
+-- Four stores of a word's bytes.
+pub four_stores : (form : List ℕ) (at n : ℕ) {bytes : List ℕ} → bytes ≡ bytes_of 4 n
+    → set (set (set (set form at (get_or bytes 0 0)) (at + 1) (get_or bytes 1 0)) (at + 2) (get_or bytes 2 0)) (at + 3) (get_or bytes 3 0)
+    ≡ sets form at (bytes_of 4 n)
+unfolding bytes_of
+four_stores form at n e = rw (e, one at, two at, three at)
 
 pub form_length_lem : (words : List ℕ) → length words ≡ 8 → length (form_of words) ≡ form_length
 unfolding form_of bytes_of_words bytes_of

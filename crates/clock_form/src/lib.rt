@@ -23,11 +23,17 @@ const LENGTH: usize = 26;
 
 // ---- Numbers among bytes
 
+// A store for each byte: a copy from slice to slice asks for the number of an address, which has another size in
+// WebAssembly.
 fn put_word(form: &mut [u8], at: usize, n: u32)
     requires { at + 4 ≤ length form.old }
     ensures { form.new ≡ sets form.old at (bytes_of 4 n) }
 {
-    form[at..at + 4].copy_from_slice(&n.to_le_bytes());
+    let bytes = n.to_le_bytes();
+    form[at] = bytes[0];
+    form[at + 1] = bytes[1];
+    form[at + 2] = bytes[2];
+    form[at + 3] = bytes[3];
 }
 
 fn word(form: &[u8], at: usize) -> u32
@@ -43,7 +49,9 @@ fn put_version(form: &mut [u8])
     requires { 2 ≤ length form.old }
     ensures { form.new ≡ sets form.old 0 (bytes_of 2 current) }
 {
-    form[..2].copy_from_slice(&CURRENT.to_le_bytes());
+    let bytes = CURRENT.to_le_bytes();
+    form[0] = bytes[0];
+    form[1] = bytes[1];
 }
 
 // Word by word, since each line shows which one lies where.

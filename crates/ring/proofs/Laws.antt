@@ -1,5 +1,5 @@
 -- Laws of the ring, for any number of places.
-use Rattle.std.proofs.Common.{◌≡◌, ℕ, zero, suc, ◌+◌, ◌-◌, ◌%◌, ◌<◌, ◌≤◌, List, [], ◌∷◌, ◌++◌, length, get_or, take, set, sym, refl, ap, subst, ◌∙◌, ap₂, append_assoc, append-nil, add-zero, add_assoc, mod-lt, mod-eq_of_lt, add-one, sub-one, arith, length-set, get_or-set_other, take-suc, get_or-set_same, length-take-le, get_or-take}
+use Rattle.std.proofs.Common.{◌≡◌, ℕ, zero, suc, ◌+◌, ◌-◌, ◌%◌, ◌<◌, ◌≤◌, List, [], ◌∷◌, ◌++◌, length, get_or, take, set, sym, refl, ap, subst, ◌∙◌, ap₂, append_assoc, append-nil, add-zero, add_assoc, mod-lt, mod-eq_of_lt, add-one, sub-one, arith, length-set, get_or-set_other, take-suc, get_or-set_same}
 use mathlib.Core.List.{tail}
 use native.Mathlib.Nat.{mod-mod, mod-add-mod, add-mod_right, mod-eq-sub-mod}
 use native.Mathlib.Decide.{dec_lt}
@@ -107,11 +107,9 @@ module _ (c : ℕ) (ring₀ : List ℕ) (start n : ℕ) (input : List ℕ) (k fr
   pub none_yet : length ring₀ ≡ c → from ≡ (start + n) % c → SoFar c ring₀ start n input k from ring₀ 0
   none_yet l e = record { whole = l; far = omega arith; place = e; put = rw add-zero (put_none c ring₀ start n) }
 
-  pub one_more_there : (ring : List ℕ) (i : ℕ) → n + k ≤ c → k ≤ length input → i < length (take k input)
-      → SoFar c ring₀ start n input k from ring i
-      → SoFar c ring₀ start n input k from (set ring ((from + i) % c) (get_or (take k input) i 0)) (i + 1)
+  pub one_more_there : (ring : List ℕ) (i : ℕ) → n + k ≤ c → k ≤ length input → i < k → SoFar c ring₀ start n input k from ring i
+      → SoFar c ring₀ start n input k from (set ring ((from + i) % c) (get_or input i 0)) (i + 1)
   one_more_there ring i room given h s =
-      let below : i < k = omega (arith, length-take-le k input given) in
       let there : (from + i) % c ≡ (start + (n + i)) % c = rw (s.place, mod-add-mod, add_assoc) in
       let next : n + (i + 1) ≡ n + i + 1 = omega arith in
       let inside : i < length input = omega arith in
@@ -119,7 +117,7 @@ module _ (c : ℕ) (ring₀ : List ℕ) (start n : ℕ) (input : List ℕ) (k fr
         whole = length-set ring _ _ ∙ s.whole;
         far = omega arith;
         place = s.place;
-        put = rw (get_or-take k input i 0 below, there, next, add-one i, take-suc input i 0) (put_more c (get_or input i 0) s.put (omega arith) s.whole);
+        put = rw (there, next, add-one i, take-suc input i 0) (put_more c (get_or input i 0) s.put (omega arith) s.whole);
       }
 
   pub all_there : (ring : List ℕ) (i : ℕ) → k ≤ i → SoFar c ring₀ start n input k from ring i

@@ -41,14 +41,15 @@ pub fn push(ring: &mut Ring, start: u32, n: u32, byte: u8)
     ring[place(start, n)] = byte;
 }
 
-// The first k of some bytes go there.
+// The first k of some bytes go there. By index: what an iterator over a slice gives lies otherwise in the memory of
+// WebAssembly.
 pub fn fill(ring: &mut Ring, start: u32, n: u32, input: &[u8], k: usize)
     requires { (n + k ≤ places_here) × (k ≤ length input.now) }
     ensures { Put places_here ring.old start n (take k input.now) ring.new (n + k) }
 {
     let from = place(start, n);
-    for (i, &byte) in input[..k].iter().enumerate() {
-        ring[(from + i) % ROUND] = byte;
+    for i in 0..k {
+        ring[(from + i) % ROUND] = input[i];
     }
 }
 

@@ -45,11 +45,12 @@ pub const START: usize = 0;
 
 pub const COUNT: usize = 1;
 
-// The spare registers are 0, as in a fresh port.
+// The spare registers are 0, as in a fresh port. All at once: what an iterator over a slice gives lies otherwise in
+// the memory of WebAssembly.
 pub fn are_spares_zero(regs: &Regs) -> bool
     ensures { (result ≡ true) ↔ (spare_registers regs.now ≡ fresh_spare_registers) }
 {
-    regs[SPARE..SIZE].iter().all(|&register| register == 0)
+    matches!(&regs[SPARE..SIZE], [0, 0, 0, 0, 0])
 }
 
 // The register that lies at an offset.

@@ -21,12 +21,15 @@ use version::{COUNT, CURRENT, REGISTERS, SIZE, TEN, Version, WAITING};
 
 // ---- Bytes and numbers
 
-// Puts bytes in place of those that lie from `at` on.
+// Puts bytes in place of those that lie from `at` on. By index: a copy from slice to slice would want a function of
+// the host.
 fn put(memory: &mut [u8], at: usize, bytes: &[u8])
     requires { at + length bytes.now ≤ length memory.old }
     ensures { memory.new ≡ sets memory.old at bytes.now }
 {
-    memory[at..at + bytes.len()].copy_from_slice(bytes);
+    for i in 0..bytes.len() {
+        memory[at + i] = bytes[i];
+    }
 }
 
 // A number has two bytes, lowest first.
@@ -112,7 +115,7 @@ fn decode_behind(
     Ok(n as u32)
 }
 
-// The form of a version.
+// The form of a version. One function for both: two would take less for a form of few bytes.
 fn decode_version(
     version: Version,
     form: &[u8],

@@ -1,6 +1,9 @@
-use native.Mathlib.Omega.{arith}
-use Rattle.serial_form.proofs.Copying.{in_place}
+-- The loop's invariant and its laws are of `Copying`.
+use Rattle.serial_form.proofs.Copying.{one_more, all_there}
 use Rattle.serial_form.proofs.put.Goals as goal
 
+pub loop-i-preserved : goal.loop-i-preserved
+loop-i-preserved c = one_more _ _ _ c.requires _ _ c.loop-i-test.true c.loop-i.invariant
+
 pub returns : goal.returns
-returns c = in_place _ _ _ _ _ c.requires (omega arith) c.copy_from_slice.ensures.after
+returns c = all_there _ _ _ c.requires _ _ c.loop-i-test.false c.loop-i.invariant
