@@ -53,7 +53,10 @@ impl State {
         ensures end_bound { self.new.end ≤ 8192 }
         ensures settles { Settles held.old self.old held.new self.new }
     {
-        held.copy_within(self.from..self.end, 0);
+        // A line that is still coming, read by read, is there already.
+        if self.from > 0 {
+            held.copy_within(self.from..self.end, 0);
+        }
         self.end -= self.from;
         self.seen = self.end;
         self.from = 0;

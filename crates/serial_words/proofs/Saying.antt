@@ -1,6 +1,9 @@
 -- What the parts of an answer say.
-use Rattle.std.proofs.Common.{◌≡◌, ℕ, zero, suc, ◌+◌, ◌/◌, ◌%◌, ◌≤◌, ◌<◌, min, true, false, List, [], ◌∷◌, ◌++◌, length, get_or, take, take_all, refl, sym, ap, ◌∙◌, append_assoc, append-nil}
-use native.Mathlib.Nat.{mod-mod}
+use Rattle.std.proofs.Common.{◌≡◌, ℕ, zero, suc, ◌+◌, ◌-◌, ◌/◌, ◌%◌, ◌≤◌, ◌<◌, min, true, false, List, [], ◌∷◌, ◌++◌, length, get_or, take, drop, take_all, refl, sym, ap, ◌∙◌, append_assoc, append-nil, arith}
+use native.Mathlib.Nat.{mod-mod, mod-eq_of_lt, min-eq_left, min-eq_right}
+use native.Mathlib.Decide.{dec_le}
+use lib.Seq.{drop-cons}
+use Rattle.std.proofs.lemmas.Grind.{flat_map-append}
 use borrow.Author.Tests.{ne_eqb}
 use Rattle.common.specs.Answer.{one_raise}
 use Rattle.serial_words.specs.Inside.{brought_part}
@@ -24,23 +27,46 @@ unreached n h e = rw (ne_eqb n 0x1_0000 h, ne_eqb (n / 0x4_0000 % 2) 1 e) refl
 
 -- ---- Bytes that wait
 
-bytes_more : (bytes : List ℕ) (b : ℕ) → bytes_say (bytes ++ (b ∷ [])) ≡ bytes_say bytes ++ digits_of b
+spelled : (bytes : List ℕ) → flat_map digits_of bytes ≡ bytes_say bytes
 unfolding bytes_say
-bytes_more [] b = append-nil (digits_of b)
-bytes_more (x ∷ bytes) b = ap (λ (l : List ℕ). digits_of x ++ l) (bytes_more bytes b)
-    ∙ sym (append_assoc (digits_of x) (bytes_say bytes) (digits_of b))
+spelled [] = refl
+spelled (byte ∷ bytes) = ap (λ (l : List ℕ). digits_of byte ++ l) (spelled bytes)
 
-pub none_yet : (ring : List ℕ) (start : ℕ) → bytes_say (queue places ring start 0) ≡ []
-unfolding bytes_say queue
-none_yet ring start = refl
-
-pub one_more : (ring : List ℕ) (start i : ℕ)
-    → bytes_say (queue places ring start (i + 1)) ≡ bytes_say (queue places ring start i) ++ digits_of (get_or ring ((start + i) % places) 0)
+-- bytes that do not go round
+straight : (ring : List ℕ) (start n : ℕ) → length ring ≡ places → start + n ≤ places → take n (drop start ring) ≡ queue places ring start n
 unfolding queue
-one_more ring start i =
-    let b = get_or ring ((start + i) % places) 0 in
-    let e : queue places ring start (i + 1) ≡ queue places ring start i ++ (b ∷ []) = queue_split places ring start i 1 in
-    rw (e, bytes_more (queue places ring start i) b) refl
+straight ring start zero l h = refl
+straight ring start (suc n) l h =
+    let here : start % places ≡ start = mod-eq_of_lt (omega arith) in
+    let next : start + 1 ≡ suc start = omega arith in
+    rw (drop-cons ring start 0 (omega (arith, l)), here, ← straight ring (start + 1) n l (omega arith), next) refl
+
+-- and those that do lie in the first places
+round : (ring : List ℕ) (start n : ℕ) → length ring ≡ places → n ≤ places → start ≡ places → take n ring ≡ queue places ring start n
+round ring start n l h e = rw e (straight ring 0 n l (omega arith) ∙ queue_round places ring 0 places n refl)
+
+-- up to the ring's end, and what has gone round
+pub in_two_parts : (ring : List ℕ) (start count : ℕ) {first : ℕ} → length ring ≡ places → start < places → count ≤ places
+    → first ≡ min count (places - start)
+    → flat_map digits_of (take (start + first - start) (drop start ring)) ++ flat_map digits_of (take (count - first) ring)
+    ≡ bytes_say (queue places ring start count)
+in_two_parts ring start count {first} l s h e = go (dec_le (start + count) places)
+  where
+    go : Dec (start + count ≤ places) → flat_map digits_of (take (start + first - start) (drop start ring)) ++ flat_map digits_of (take (count - first) ring)
+        ≡ bytes_say (queue places ring start count)
+    go (yes room) =
+        let all : first ≡ count = e ∙ min-eq_left (omega arith) in
+        let front : start + count - start ≡ count = omega arith in
+        let none : count - count ≡ 0 = omega arith in
+        rw (all, front, none, straight ring start count l room) (append-nil _ ∙ spelled _)
+    go (no over) =
+        let few : first ≡ places - start = e ∙ min-eq_right (omega arith) in
+        let front : start + first - start ≡ first = omega arith in
+        let all : first + (count - first) ≡ count = omega arith in
+        let whole : queue places ring start count ≡ queue places ring start first ++ queue places ring (start + first) (count - first) =
+        rw all at (queue_split places ring start first (count - first)) in
+        rw (front, straight ring start first l (omega arith), round ring (start + first) (count - first) l (omega arith) (omega arith), whole)
+        (sym (flat_map-append digits_of _ _) ∙ spelled _)
 
 none_in : (ring : List ℕ) (start n : ℕ) → n ≡ 0 → some (queue places ring start n) ≡ false
 unfolding queue

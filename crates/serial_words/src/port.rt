@@ -78,7 +78,8 @@ fn put_ring(out: &mut Out, start: usize, count: usize, ring: &Ring)
     ensures says { out.new ≡ out.old ++ bytes_say (queue places ring.now start count) }
     ensures upper_bound { length out.new ≤ length out.old + 2048 }
 {
-    for i in 0..count {
-        out.put_byte(ring[(start + i) % PLACES]);
-    }
+    // Those up to the ring's end, and those that have gone round.
+    let first = count.min(PLACES - start);
+    out.put_bytes(&ring[start..start + first]);
+    out.put_bytes(&ring[..count - first]);
 }

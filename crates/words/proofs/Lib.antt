@@ -1,4 +1,5 @@
 mod Decimals
 pub mod Patterns
+mod Digits
 mod Pairs
 pub mod Saying

@@ -1,6 +1,7 @@
 // Hexadecimal digits, lower case.
-ghost use Rattle.std.specs.Prelude.{◌≤◌, ◌<◌, ◌≡◌, length, get_or, drop, IfSome};
-ghost use Rattle.words.specs.Hex.{value_of, byte_of, byte_at, digit_of, count_of, Gives};
+ghost use Rattle.std.specs.Prelude.{◌≤◌, ◌<◌, ◌≡◌, ◌*◌, length, get_or, drop, IfSome};
+ghost use Rattle.std.specs.List.{flat_map};
+ghost use Rattle.words.specs.Hex.{value_of, byte_of, byte_at, digit_of, digits_of, count_of, Gives};
 
 // The value of a digit.
 #[tactic(auto, using(std::proofs::lemmas::Bool::Decides::nat_tests), unfolding(crate::specs::Hex::value_of))]
@@ -63,6 +64,17 @@ fn char_at(line: &[u8], i: usize) -> u8
     ensures { result ≡ get_or line.now i 0 }
 {
     line.get(i).copied().unwrap_or(0)
+}
+
+// Puts the digits of `bytes`, two each, one pair behind another.
+pub fn put_digits(space: &mut [u8], bytes: &[u8])
+    requires { length space.old ≡ 2 * length bytes.now }
+    ensures { space.new ≡ flat_map digits_of bytes.now }
+{
+    for i in 0..bytes.len() {
+        space[2 * i] = digit(bytes[i] / 16);
+        space[2 * i + 1] = digit(bytes[i] % 16);
+    }
 }
 
 // The digit of a value.

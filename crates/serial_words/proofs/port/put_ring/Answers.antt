@@ -1,13 +1,11 @@
--- Byte by byte; each answer is a law of `Saying`.
-use Rattle.std.proofs.Common.{arith, append-nil, append_assoc, sym}
-use Rattle.serial_words.proofs.Saying.{none_yet, one_more}
+-- Two parts, one behind the other.
+use Rattle.words.proofs.Saying.{both, instead}
+use Rattle.serial_words.proofs.Saying.{in_two_parts}
 use Rattle.serial_words.proofs.port.put_ring.Goals as goal
 
-pub loop-i-init : goal.loop-i-init
-loop-i-init c = record { near = omega arith; said = rw none_yet (sym (append-nil _)) }
-
-pub loop-i-preserved : goal.loop-i-preserved
-loop-i-preserved c = record {
-  near = omega (arith, c.loop-i.invariant.near, c.put_byte.ensures.len);
-  said = rw (c.put_byte.ensures.says, c.loop-i.invariant.said, one_more, append_assoc);
-}
+pub returns-clause-says : goal.returns-clause-says
+returns-clause-says c =
+    let a = c.args in
+    let r = c.requires in
+    instead _ (in_two_parts a.ring.now a.start a.count c.told-ring r.start_lt_places r.count_le_places c.min-first.ensures)
+    (both _ _ _ c.put_bytes.ensures.says c.put_bytes-2.ensures.says)
