@@ -84,10 +84,10 @@ module _ (now low high : ℕ) (n : now < 2 ^ 32) (l : low < 2 ^ 32) (h : high < 
   abbrev Shown : ℕ → Type 0
   Shown v = v ≡ shown now (signed (joined low high))
 
-  counter_sum : r < 2 ^ 32 → Shown r
+  pub counter_sum : r < 2 ^ 32 → Shown r
   counter_sum k = rw (← joins) (adds ∙ sym (counter_fits now bits n (omega arith) (omega arith)))
 
-  counter_now : 2 ^ 32 ≤ r → Shown now
+  pub counter_now : 2 ^ 32 ≤ r → Shown now
   counter_now k = rw (← joins) (sym (counter_falls_back now bits n (omega arith) (omega arith)))
 
   -- The code asks whether it fits 32 bits, and takes `now` where it does not.

@@ -22,10 +22,10 @@ module _ (value now bits r : ℕ) (v : value < 2 ^ 32) (n : now < 2 ^ 32) (b : b
 
 module _ (value low high : ℕ) (v : value < 2 ^ 32) (l : low < 2 ^ 32) (h : high < 2 ^ 32) {r : ℕ} (s : r < 2 ^ 64)
     (wraps : (r + joined low high) % 2 ^ 64 ≡ value) where
-  showed_then : r < 2 ^ 32 → (true ≡ true) ↔ ShowedAt (signed (joined low high)) value
+  pub showed_then : r < 2 ^ 32 → (true ≡ true) ↔ ShowedAt (signed (joined low high)) value
   showed_then k = (λ _. (r, k, difference_signed value r (joined low high) v k (omega arith) (omega arith)), λ _. refl)
 
-  never_showed : 2 ^ 32 ≤ r → (false ≡ true) ↔ ShowedAt (signed (joined low high)) value
+  pub never_showed : 2 ^ 32 ≤ r → (false ≡ true) ↔ ShowedAt (signed (joined low high)) value
   never_showed k = (
     λ z. absurd (false≢true z),
     λ w. absurd (omega (arith, w.1, only_second value w.0 (joined low high) r v w.1 (omega arith) s wraps w.2)),

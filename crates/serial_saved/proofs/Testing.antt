@@ -26,7 +26,7 @@ not_so n = (λ e. absurd (false≢true e), λ a. absurd (n a))
 
 -- ---- Bytes
 
-bytes_below : (l : List ℕ) → ((i : ℕ) → get_or l i 0 < 256) → Bytes l
+pub bytes_below : (l : List ℕ) → ((i : ℕ) → get_or l i 0 < 256) → Bytes l
 bytes_below [] h = tt
 bytes_below (x ∷ l) h = (h 0, bytes_below l (λ i. h (suc i)))
 
